@@ -1,0 +1,4 @@
+pub mod Rows
+pub mod Content
+pub mod Moves
+pub mod Paths
