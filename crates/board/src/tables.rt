@@ -1,0 +1,26 @@
+// The tables of rows and lines, and their size.
+ghost use mathlib.Core.Path.{_≡_};
+ghost use Prim.Native.Nat.{_≤_, _<_, _*_};
+ghost use lib.ListN.{length};
+ghost use Rattle.board.specs.Fits.{Rows-in, Rows-formed, Lines-in};
+use crate::row::Line;
+use crate::row::Row;
+
+mod calls;
+
+// Fixed arrays, of which the first `row_count` and `line_count` entries are held.
+#[derive(Clone, Copy)]
+pub struct Tables {
+    modes: u8,
+    moments: u8,
+    rows: [Row; 128],
+    row_count: usize,
+    lines: [Line; 128],
+    line_count: usize,
+    ghost room: { («row_count» ≤ 128) × («line_count» ≤ 128) },
+    ghost long: { (length rows ≡ 128) × (length lines ≡ 128) },
+    ghost sized: { (0 < modes) × (0 < moments) × (modes * moments ≤ 64) },
+    ghost rows_in: { Rows-in modes «row_count» rows },
+    ghost rows_formed: { Rows-formed «row_count» rows },
+    ghost lines_in: { Lines-in moments «line_count» lines },
+}
