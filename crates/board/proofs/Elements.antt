@@ -1,11 +1,11 @@
 -- What stands at a number of a list: after one element is added or changed, and in a front.
-use mathlib.Core.Path.{_≡_, refl, ap, sym, subst}
+use mathlib.Core.Path.{_≡_, refl, ap, sym, subst, _∙_}
 use mathlib.Core.List.{List, [], _∷_, _++_}
 use mathlib.Core.Logic.{_⊎_, inl, inr, ⊎-elim}
 use Prim.Native.Nat.{ℕ, zero, suc, _+_, _*_, _<_, _≤_}
 use native.Mathlib.Nat.{zero-mul, mul-zero, mul-comm, le-mul-of-pos-right}
 use native.Mathlib.Omega.{arith}
-use lib.ListN.{length, take, getD, set}
+use lib.ListN.{length, take, getD, set, length-take}
 use Rattle.std.specs.Runs.{nth}
 use Rattle.std.specs.declared.option.Option.the-variants.{Some, None}
 use Rattle.std.proofs.shelf.Tests.{cases-eq}
@@ -74,3 +74,30 @@ factors (suc a) (suc b) h k =
     let right = le-mul-of-pos-right {m = suc a} (suc b) (omega arith) in
     let turned = mul-comm (suc a) (suc b) in
     (omega arith, omega arith, omega arith, omega arith)
+
+-- what stands at a number of a front
+pub nth-front : {X : Type 0} (xs : List X) (n i : ℕ) (d : X) → i < n → n ≤ length xs → nth (take n xs) i ≡ Some (getD xs i d)
+nth-front [] n i d h l = absurd (omega arith)
+nth-front (x ∷ xs) zero i d h l = absurd (omega arith)
+nth-front (x ∷ xs) (suc n) zero d h l = refl
+nth-front (x ∷ xs) (suc n) (suc i) d h l = nth-front xs n i d (omega arith) (omega arith)
+
+pub nth-past : {X : Type 0} (xs : List X) (i : ℕ) → length xs ≤ i → nth xs i ≡ None
+nth-past [] i h = refl
+nth-past (x ∷ xs) zero h = absurd (omega arith)
+nth-past (x ∷ xs) (suc i) h = nth-past xs i (omega arith)
+
+pub nth-below : {A : Type 0} (xs : List A) (i : ℕ) (x : A) → nth xs i ≡ Some x → i < length xs
+nth-below [] i x e = absurd (no-some x e)
+nth-below (y ∷ xs) zero x e = omega arith
+nth-below (y ∷ xs) (suc i) x e = let h = nth-below xs i x e in omega arith
+
+-- what holds of each below n holds of what stands in the front
+pub each-front : {X : Type 0} (P : X → Type 0) (xs : List X) (n : ℕ) → n ≤ length xs → ((k : ℕ) (d : X) → k < n → P (getD xs k d)) → (i : ℕ) (x : X) → nth (take n xs) i ≡ Some x → P x
+each-front P xs n l all i x e =
+    let small : i < n = omega (arith, nth-below (take n xs) i x e, length-take n xs) in
+    let is : getD xs i x ≡ x = some-in (sym (nth-front xs n i x small l) ∙ e) in
+    subst P is (all i x small)
+  where
+    some-in : {A : Type 0} {a b : A} → Some a ≡ Some b → a ≡ b
+    some-in {a = a} {b = b} e = cc

@@ -6,3 +6,6 @@ pub mod Calls
 pub mod Held
 pub mod Moves
 pub mod Paths
+pub mod Packing
+pub mod Checks
+pub mod Checkers

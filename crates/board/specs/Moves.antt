@@ -1,7 +1,9 @@
 -- What a move does: from which place to which, at what cost, and what it does to the brackets.
 use mathlib.Core.Path.{_≡_}
+use mathlib.Core.Bool.{Bool}
 use mathlib.Core.Logic.{_⊎_}
 use Prim.Native.Nat.{ℕ, suc, _+_, _*_, _<_}
+use lib.Dec.{eqb}
 use Rattle.std.specs.Runs.{nth}
 use Rattle.std.specs.declared.option.Option.{Option}
 use Rattle.std.specs.declared.option.Option.the-variants.{Some, None}
@@ -54,6 +56,10 @@ Is-move c i r = nth (c .rows) i ≡ Some r
 -- At which moments an end row may stand: the last one only.
 abbrev pub End-moment : ℕ → ℕ → Type 0
 End-moment moments t = suc t ≡ moments
+
+-- the test of it
+abbrev pub end-moment? : ℕ → ℕ → Bool
+end-moment? moments t = eqb (suc t) moments
 
 -- Of moments t before and u after, at cost k: a row without an event takes no line and keeps the moment.
 pub record Untimed (c : Content) (r : Row) (line : Option ℕ) (t u k : ℕ) : Type 0 where

@@ -1,10 +1,15 @@
-// The board: rows, lines and moves, the draft and its calls.
+// The board: rows, lines and moves, the draft and its calls, and the check of a list of moves.
+mod check;
+mod checker;
 mod draft;
 mod moves;
+mod named;
+mod packing;
 mod refusal;
 mod row;
 mod tables;
 
+pub use check::Fault;
 pub use draft::Draft;
 pub use moves::Arrival;
 pub use moves::Effect;

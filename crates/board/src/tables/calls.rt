@@ -4,6 +4,7 @@ ghost use mathlib.Core.Bool.{true};
 ghost use mathlib.Core.List.{[]};
 ghost use Prim.Native.Nat.{_<_, _≤_, _*_};
 ghost use lib.ListN.{length};
+ghost use Rattle.std.specs.Runs.{nth};
 ghost use Rattle.board.specs.Content.{new};
 ghost use Rattle.board.specs.Calls.{with-size, with-row, with-line, with-row-cost, with-line-cost, without-lines};
 ghost use Rattle.board.specs.Rows.{formed};
@@ -68,6 +69,28 @@ impl Tables {
         ensures { λ r. ⌜ r ≡ length (held (now (self .entry)) .lines) ⌝ }
     {
         self.line_count
+    }
+
+    // The row of that number.
+    pub fn row_at(&self, n: usize) -> Option<Row>
+        ensures { λ r. ⌜ r ≡ nth (held (now (self .entry)) .rows) n ⌝ }
+    {
+        if n < self.row_count {
+            Some(self.rows[n])
+        } else {
+            None
+        }
+    }
+
+    // The line of that number.
+    pub fn line_at(&self, n: usize) -> Option<Line>
+        ensures { λ r. ⌜ r ≡ nth (held (now (self .entry)) .lines) n ⌝ }
+    {
+        if n < self.line_count {
+            Some(self.lines[n])
+        } else {
+            None
+        }
     }
 
     // Another size, of tables that hold nothing.
