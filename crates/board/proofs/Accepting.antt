@@ -7,7 +7,6 @@ use Prim.Native.Nat.{ℕ, zero, suc, _+_, _<_, _≤_}
 use native.Mathlib.Omega.{arith}
 use lib.Dec.{eqb, ltb}
 use lib.ListN.{length}
-use Rattle.std.specs.Runs.{nth}
 use Rattle.std.proofs.shelf.Tests.{both-ways, or-parts, or-from, not-false, not-from-true, ltb-true, lt-ltb, cond-true, cond-false}
 use Rattle.std.specs.declared.option.Option.{Option}
 use Rattle.std.specs.declared.option.Option.the-variants.{Some, None}
@@ -15,7 +14,6 @@ use Rattle.std.specs.declared.result.Result.{Result}
 use Rattle.std.specs.declared.result.Result.the-variants.{Ok, Err}
 use Rattle.costs.specs.Meaning.{Meaning}
 use Rattle.costs.specs.Lists.{joined-onto}
-use Rattle.board.specs.declared.row.Line.{Line}
 use Rattle.board.specs.declared.moves.Move.{Move}
 use Rattle.board.specs.declared.moves.Effect.{Effect}
 use Rattle.board.specs.declared.moves.Effect.the-variants.{Quiet, Opens, Closes, Ends}
@@ -25,12 +23,13 @@ use Rattle.board.specs.declared.refusal.Refusal.{Refusal}
 use Rattle.board.specs.declared.refusal.Refusal.the-variants.{TooDeep, BadBracket}
 use Rattle.board.specs.declared.check.Fault.{Fault}
 use Rattle.board.specs.Content.{Content}
-use Rattle.board.specs.Moves.{Place, mode, moment, origin, Transition}
+use Rattle.board.specs.Moves.{Place, Transition}
 use Rattle.board.specs.Paths.{Path, stop, go, Balanced, stack, Running, Complete}
 use Rattle.board.specs.Packing.{unpacked}
-use Rattle.board.specs.Checks.{named, starts-at, leads, bracketed, is-end, Progress, start, arrived, take-named, named-by-number, take-move, or-fault, checked-from, check-answer, Shallow-from, Packs-reading}
+use Rattle.board.specs.Arrivals.{named, starts-at, leads}
+use Rattle.board.specs.Checks.{bracketed, is-end, Progress, start, arrived, take-named, named-by-number, take-move, or-fault, checked-from, check-answer, Shallow-from, Packs-reading}
 use Rattle.board.proofs.Elements.{no-some}
-use Rattle.board.proofs.Naming.{named-goes, goes-named}
+use Rattle.board.proofs.Naming.{some-in, named-goes, goes-named}
 use Rattle.board.proofs.Balance.{body-stack, stack-body}
 
 err-ok : {A E : Type 0} (e : E) (x : A) → Err e ≡ Ok x → ⊥
@@ -66,7 +65,7 @@ record Took (m : Meaning) (c : Content) (w : Progress) (x : ℕ) (w′ : Progres
   ended-is : w′ .ended ≡ is-end (arrival .effect)
   cost-is : w′ .cost ≡ m .join (w .cost) (arrival .cost)
 
-module _ (m : Meaning) (c : Content) (w : Progress) (x : ℕ) (w′ : Progress) (there : moment (w .place) < c .moments) where
+module _ (m : Meaning) (c : Content) (w : Progress) (x : ℕ) (w′ : Progress) where
   took-arrival : (v : Move) (a : Arrival) (o : Result (List ℕ) Refusal) → unpacked x ≡ Some v → Transition m c v (w .place) (a .to) (a .cost) (a .effect) → bracketed (a .effect) (w .unclosed) ≡ o → arrived m (w .cost) a o ≡ Ok w′ → Took m c w x w′
   took-arrival v a (Ok st) u g b e =
       let w-is : record { place = a .to; unclosed = st; ended = is-end (a .effect); cost = m .join (w .cost) (a .cost) } ≡ w′ = ok-in _ _ e in
@@ -87,7 +86,7 @@ module _ (m : Meaning) (c : Content) (w : Progress) (x : ℕ) (w′ : Progress) 
   took-named v (Some a) u n e =
       let z = cond-ok _ _ _ _ e in
       let t = or-parts _ _ (z .0) in
-      took-arrival v (leads m a (w .place)) _ u (named-goes m c v (w .place) a there n (not-false _ (t .1))) refl (z .1)
+      took-arrival v (leads m a (w .place)) _ u (named-goes m c v (w .place) a n (not-false _ (t .1))) refl (z .1)
 
   took-number : (o : Option Move) → unpacked x ≡ o → take-named m (c .moments) w (named-by-number c o) ≡ Ok w′ → Took m c w x w′
   took-number None u e = absurd (err-ok _ w′ e)
@@ -141,9 +140,6 @@ still-few (Closes a) (x ∷ st) st′ h b = same (eqb x a) b
     same false f = absurd (err-ok _ st′ f)
 still-few Ends [] st′ h b = let l : 0 ≡ length st′ = ap length (ok-in [] st′ b) in omega arith
 still-few Ends (x ∷ st) st′ h b = absurd (err-ok _ st′ b)
-
-some-in : {A : Type 0} (x y : A) → Some x ≡ Some y → x ≡ y
-some-in x y e = cc
 
 shallow-more : (e : Effect) (es : List Effect) (st st′ : List ℕ) → is-end e ≡ false → bracketed e st ≡ Ok st′ → length st ≤ 4096 → Shallow-from st′ es → Shallow-from st (e ∷ es)
 shallow-more e es st st′ n b few s [] rest o f k = let l : length st ≡ length o = ap length (some-in _ _ k) in omega arith
@@ -210,16 +206,9 @@ record Rest (m : Meaning) (c : Content) (p : Place) (st : List ℕ) (a : ℕ) (x
 
 -- what the rest of a check gives, one move on
 abbrev Again : Meaning → Content → ℕ → List ℕ → Type 0
-Again m c i xs = (w : Progress) (k : ℕ) → moment (w .place) < c .moments → length (w .unclosed) ≤ 4096 → w .ended ≡ false → checked-from m c w (suc i) xs ≡ Ok k → Rest m c (w .place) (w .unclosed) (w .cost) xs k
+Again m c i xs = (w : Progress) (k : ℕ) → length (w .unclosed) ≤ 4096 → w .ended ≡ false → checked-from m c w (suc i) xs ≡ Ok k → Rest m c (w .place) (w .unclosed) (w .cost) xs k
 
--- lines lead to moments of the board
-abbrev pub Lines-on : Content → Type 0
-Lines-on c = (i : ℕ) (l : Line) → nth (c .lines) i ≡ Some l → l .to < c .moments
-
-module _ {m : Meaning} {c : Content} (lines-on : Lines-on c) where
-  moment-on : {v : Move} {p q : Place} {k : ℕ} {e : Effect} → Transition m c v p q k e → moment q < c .moments
-  moment-on g = ⊎-elim (λ s. omega (arith, s .there, s .keeps)) (λ s. omega (arith, lines-on (s .number) (s .taken) (s .found), s .arrive)) (g .time)
-
+module _ {m : Meaning} {c : Content} where
   rest-end : (w w′ : Progress) (x : ℕ) (k : ℕ) → (s : Took m c w x w′) → w′ .ended ≡ true → w′ .cost ≡ k → length (w .unclosed) ≤ 4096 → Rest m c (w .place) (w .unclosed) (w .cost) (x ∷ []) k
   rest-end w w′ x k s t h few =
       let e = is-ends _ (sym (s .ended-is) ∙ t) in
@@ -260,20 +249,19 @@ module _ {m : Meaning} {c : Content} (lines-on : Lines-on c) where
         price = r .price ∙ ap (λ z. joined-onto m z (r .costs)) (s .cost-is);
       }
 
-  passed : (xs : List ℕ) (i : ℕ) (w : Progress) (k : ℕ) → moment (w .place) < c .moments → length (w .unclosed) ≤ 4096 → w .ended ≡ false → checked-from m c w i xs ≡ Ok k → Rest m c (w .place) (w .unclosed) (w .cost) xs k
-  passed [] i w k on few f e = absurd (err-ok _ k (sym (cond-false _ _ _ f) ∙ e))
-  passed (x ∷ xs) i w k on few f e = first (passed xs (suc i)) (take-move m c w x) refl e
+  passed : (xs : List ℕ) (i : ℕ) (w : Progress) (k : ℕ) → length (w .unclosed) ≤ 4096 → w .ended ≡ false → checked-from m c w i xs ≡ Ok k → Rest m c (w .place) (w .unclosed) (w .cost) xs k
+  passed [] i w k few f e = absurd (err-ok _ k (sym (cond-false _ _ _ f) ∙ e))
+  passed (x ∷ xs) i w k few f e = first (passed xs (suc i)) (take-move m c w x) refl e
     where
       by-end : Again m c i xs → (w′ : Progress) → Took m c w x w′ → checked-from m c w′ (suc i) xs ≡ Ok k → (t : Bool) → w′ .ended ≡ t → Rest m c (w .place) (w .unclosed) (w .cost) (x ∷ xs) k
       by-end again w′ s g true t =
           let z = at-end m c w′ (suc i) k xs t g in
           subst (λ l. Rest m c (w .place) (w .unclosed) (w .cost) (x ∷ l) k) (sym (z .0)) (rest-end w w′ x k s t (z .1) few)
       by-end again w′ s g false t =
-          let on′ : moment (w′ .place) < c .moments = subst (λ (p : Place). moment p < c .moments) (sym (s .place-is)) (moment-on (s .goes)) in
-          rest-more w w′ x xs k s t few (again w′ k on′ (still-few (s .arrival .effect) _ _ few (s .stacks)) t g)
+          rest-more w w′ x xs k s t few (again w′ k (still-few (s .arrival .effect) _ _ few (s .stacks)) t g)
 
       first : Again m c i xs → (o : Result Progress Refusal) → take-move m c w x ≡ o → or-fault i o (λ v. checked-from m c v (suc i) xs) ≡ Ok k → Rest m c (w .place) (w .unclosed) (w .cost) (x ∷ xs) k
-      first again (Ok w′) t g = by-end again w′ (took m c w x w′ on t) g _ refl
+      first again (Ok w′) t g = by-end again w′ (took m c w x w′ t) g _ refl
       first again (Err y) t g = absurd (err-ok _ k g)
 
   -- and back: a transition is taken
@@ -317,12 +305,12 @@ module _ {m : Meaning} {c : Content} (lines-on : Lines-on c) where
       let on = accepted body path (same-tail _ _ _ _ eq) (ne .1) (o .0) (sym (stack-one e body st (o .0) (ne .0) (o .1)) ∙ s) (shallow-less e body st (o .0) (ne .0) (o .1) d) xs u₁ (suc i) (m .join a k) in
       ap (λ (o : Result Progress Refusal). or-fault i o (λ y. checked-from m c y (suc i) xs)) t ∙ w-is ∙ on
 
-  pub accepts : 0 < c .moments → (xs : List ℕ) (k : ℕ) → (check-answer m c xs ≡ Ok k) ↔ Packs-reading m c xs k
-  accepts some xs k = (there, back)
+  pub accepts : (xs : List ℕ) (k : ℕ) → (check-answer m c xs ≡ Ok k) ↔ Packs-reading m c xs k
+  accepts xs k = (there, back)
     where
       there : check-answer m c xs ≡ Ok k → Packs-reading m c xs k
       there e =
-          let r = passed xs 0 (start m) k some (omega arith) refl e in
+          let r = passed xs 0 (start m) k (omega arith) refl e in
           record {
             moves = r .moves;
             packs = r .packs;

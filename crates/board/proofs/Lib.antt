@@ -5,3 +5,13 @@ pub mod Stacks
 pub mod Checked
 pub mod Naming
 pub mod Accepting
+pub mod Laws
+pub mod Membership
+pub mod Diagonal
+pub mod Transitions
+pub mod Candidates
+pub mod Precedence
+pub mod Decomposing
+pub mod Spelling
+pub mod Pairs
+pub mod Minimal

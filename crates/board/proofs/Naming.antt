@@ -7,7 +7,7 @@ use Prim.Native.Nat.{ℕ, suc, _<_}
 use native.Mathlib.Omega.{arith}
 use lib.Dec.{eqb}
 use Rattle.std.specs.Runs.{nth}
-use Rattle.std.proofs.shelf.Tests.{eqb-true, eqb-false, eq-eqb, ne-eqb, and-parts, and-from, cond-true, cond-false, not-true, not-false, not-from-true, not-from-false}
+use Rattle.std.proofs.shelf.Tests.{eqb-true, eqb-false, ltb-true, lt-ltb, eq-eqb, ne-eqb, and-parts, and-from, cond-true, cond-false, not-true, not-false, not-from-true, not-from-false}
 use Rattle.std.specs.declared.option.Option.{Option}
 use Rattle.std.specs.declared.option.Option.the-variants.{Some, None}
 use Rattle.costs.specs.Meaning.{Meaning}
@@ -22,13 +22,13 @@ use Rattle.board.specs.declared.named.Named.{Named}
 use Rattle.board.specs.declared.named.Named.the-variants.{Alone, Along}
 use Rattle.board.specs.Content.{Content}
 use Rattle.board.specs.Moves.{Place, mode, moment, effect, Untimed, Timed, Transition, End-moment}
-use Rattle.board.specs.Checks.{takes-line, named-line, named-by, named-row, named, timely, starts-at, leads}
+use Rattle.board.specs.Arrivals.{takes-line, named-line, named-by, named-row, named, timely, starts-at, leads}
 use Rattle.board.proofs.Elements.{no-some}
 
-some-in : {A : Type 0} (x y : A) → Some x ≡ Some y → x ≡ y
+pub some-in : {A : Type 0} (x y : A) → Some x ≡ Some y → x ≡ y
 some-in x y e = cc
 
-cond-some : {A : Type 0} (b : Bool) (x : Option A) (y : A) → cond b x None ≡ Some y → (b ≡ true) × (x ≡ Some y)
+pub cond-some : {A : Type 0} (b : Bool) (x : Option A) (y : A) → cond b x None ≡ Some y → (b ≡ true) × (x ≡ Some y)
 cond-some true x y e = (refl, e)
 cond-some false x y e = absurd (no-some y e)
 
@@ -72,10 +72,11 @@ module _ (m : Meaning) (c : Content) (v : Move) (p : Place) where
   abbrev Going : Named → Type 0
   Going n = Transition m c v p (leads m n p .to) (leads m n p .cost) (leads m n p .effect)
 
-  alone-goes : (r : Row) → nth (c .rows) (v .row) ≡ Some r → v .line ≡ None → (r .kind ≡ Plain → r .label ≡ 0) → moment p < c .moments → starts-at (c .moments) (Alone r) p ≡ true → Going (Alone r)
-  alone-goes r found bare no-event there s =
+  alone-goes : (r : Row) → nth (c .rows) (v .row) ≡ Some r → v .line ≡ None → (r .kind ≡ Plain → r .label ≡ 0) → starts-at (c .moments) (Alone r) p ≡ true → Going (Alone r)
+  alone-goes r found bare no-event s =
       let z = and-parts _ _ s in
-      record { by = r; found = found; leaves = eqb-true _ _ (z .0); enters = refl; does = refl; time = inl (record { alone = bare; no-event = no-event; at-end = timely-true (r .kind) _ _ (z .1); there = there; keeps = refl; price = refl }) }
+      let t = and-parts _ _ (z .1) in
+      record { by = r; found = found; leaves = eqb-true _ _ (z .0); enters = refl; does = refl; time = inl (record { alone = bare; no-event = no-event; at-end = timely-true (r .kind) _ _ (t .1); there = ltb-true _ _ (t .0); keeps = refl; price = refl }) }
 
   along-goes : (r : Row) (l : Line) (j : ℕ) → nth (c .rows) (v .row) ≡ Some r → nth (c .lines) j ≡ Some l → v .line ≡ Some j → r .kind ≡ Plain → (r .label ≡ 0 → ⊥) → l .event ≡ r .label → starts-at (c .moments) (Along r l) p ≡ true → Going (Along r l)
   along-goes r l j found held with is-plain some-event same s =
@@ -89,23 +90,23 @@ module _ (m : Meaning) (c : Content) (v : Move) (p : Place) where
       let n-is : Along r l ≡ n = some-in _ _ (z .1) in
       subst Going n-is (along-goes r l j found held with is-plain some-event (eqb-true _ _ (z .0)) (subst (λ x. starts-at (c .moments) x p ≡ true) (sym n-is) s))
 
-  by-time : (r : Row) (w : Option ℕ) (n : Named) → nth (c .rows) (v .row) ≡ Some r → v .line ≡ w → moment p < c .moments → named-by (c .lines) r w ≡ Some n → starts-at (c .moments) n p ≡ true → Going n
-  by-time r None n found ew there e s =
+  by-time : (r : Row) (w : Option ℕ) (n : Named) → nth (c .rows) (v .row) ≡ Some r → v .line ≡ w → named-by (c .lines) r w ≡ Some n → starts-at (c .moments) n p ≡ true → Going n
+  by-time r None n found ew e s =
       let z = cond-other _ _ _ e in
       let n-is : Alone r ≡ n = some-in _ _ (z .1) in
-      subst Going n-is (alone-goes r found ew (no-line (r .kind) (r .label) (z .0)) there (subst (λ x. starts-at (c .moments) x p ≡ true) (sym n-is) s))
-  by-time r (Some j) n found ew there e s =
+      subst Going n-is (alone-goes r found ew (no-line (r .kind) (r .label) (z .0)) (subst (λ x. starts-at (c .moments) x p ≡ true) (sym n-is) s))
+  by-time r (Some j) n found ew e s =
       let z = cond-some _ _ _ e in
       let k = a-line (r .kind) (r .label) (z .0) in
       by-line r n j _ found refl ew (k .0) (k .1) (z .1) s
 
-  by-row : (o : Option Row) (n : Named) → nth (c .rows) (v .row) ≡ o → moment p < c .moments → named-row (c .lines) (v .line) o ≡ Some n → starts-at (c .moments) n p ≡ true → Going n
-  by-row None n found there e s = absurd (no-some n e)
-  by-row (Some r) n found there e s = by-time r (v .line) n found refl there e s
+  by-row : (o : Option Row) (n : Named) → nth (c .rows) (v .row) ≡ o → named-row (c .lines) (v .line) o ≡ Some n → starts-at (c .moments) n p ≡ true → Going n
+  by-row None n found e s = absurd (no-some n e)
+  by-row (Some r) n found e s = by-time r (v .line) n found refl e s
 
-  -- from a moment of the board, what is named and starts there is a transition
-  pub named-goes : (n : Named) → moment p < c .moments → named c v ≡ Some n → starts-at (c .moments) n p ≡ true → Transition m c v p (leads m n p .to) (leads m n p .cost) (leads m n p .effect)
-  named-goes n there e s = by-row _ n refl there e s
+  -- what is named and starts at the place is a transition
+  pub named-goes : (n : Named) → named c v ≡ Some n → starts-at (c .moments) n p ≡ true → Transition m c v p (leads m n p .to) (leads m n p .cost) (leads m n p .effect)
+  named-goes n e s = by-row _ n refl e s
 
 arrival-eq : (a b : Arrival) → mode (a .to) ≡ mode (b .to) → moment (a .to) ≡ moment (b .to) → a .cost ≡ b .cost → a .effect ≡ b .effect → a ≡ b
 arrival-eq a b d t k e = λ i. record { to = (d i, t i); cost = k i; effect = e i }
@@ -122,7 +123,7 @@ module _ (m : Meaning) (c : Content) (v : Move) (p q : Place) (k : ℕ) (e : Eff
   from-untimed r found leaves enters does s = record {
     name = Alone r;
     named-so = ap (named-row (c .lines) (v .line)) found ∙ ap (named-by (c .lines) r) (s .alone) ∙ cond-false _ _ _ (from-no-line (r .kind) (r .label) (s .no-event));
-    starts = and-from _ _ (eq-eqb _ _ leaves) (timely-from (r .kind) _ _ (s .at-end));
+    starts = and-from _ _ (eq-eqb _ _ leaves) (and-from _ _ (lt-ltb _ _ (s .there)) (timely-from (r .kind) _ _ (s .at-end)));
     leads-on = arrival-eq _ _ (sym enters) (s .keeps) (sym (s .price)) (sym does);
   }
 

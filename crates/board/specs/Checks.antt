@@ -1,75 +1,29 @@
 -- Checking a list of packed moves, move by move.
 use mathlib.Core.Path.{_≡_}
 use mathlib.Core.List.{List, [], _∷_, _++_, map}
-use mathlib.Core.Bool.{Bool, true, false, cond, _&&_, _||_, not}
+use mathlib.Core.Bool.{Bool, true, false, cond, _||_, not}
 use mathlib.Core.Logic.{_↔_}
 use Prim.Native.Nat.{ℕ, suc, _≤_}
 use lib.Dec.{ltb, eqb}
 use lib.ListN.{length}
-use Rattle.std.specs.Runs.{nth}
 use Rattle.std.specs.declared.option.Option.{Option}
 use Rattle.std.specs.declared.option.Option.the-variants.{Some, None}
 use Rattle.std.specs.declared.result.Result.{Result}
 use Rattle.std.specs.declared.result.Result.the-variants.{Ok, Err}
 use Rattle.costs.specs.Meaning.{Meaning}
-use Rattle.board.specs.declared.row.RowKind.{RowKind}
-use Rattle.board.specs.declared.row.RowKind.the-variants.{Plain, Open, Close, End}
-use Rattle.board.specs.declared.row.Row.{Row}
-use Rattle.board.specs.declared.row.Line.{Line}
 use Rattle.board.specs.declared.moves.Move.{Move}
 use Rattle.board.specs.declared.moves.Effect.{Effect}
 use Rattle.board.specs.declared.moves.Effect.the-variants.{Quiet, Opens, Closes, Ends}
 use Rattle.board.specs.declared.moves.Arrival.{Arrival}
 use Rattle.board.specs.declared.named.Named.{Named}
-use Rattle.board.specs.declared.named.Named.the-variants.{Alone, Along}
 use Rattle.board.specs.declared.refusal.Refusal.{Refusal}
 use Rattle.board.specs.declared.refusal.Refusal.the-variants.{BadMove, NotNext, BadBracket, TooDeep, NoEnd}
 use Rattle.board.specs.declared.check.Fault.{Fault}
 use Rattle.board.specs.Content.{Content}
-use Rattle.board.specs.Moves.{Place, mode, moment, origin, effect, end-moment?}
+use Rattle.board.specs.Moves.{Place, origin}
+use Rattle.board.specs.Arrivals.{named, starts-at, leads}
 use Rattle.board.specs.Paths.{stack, Complete}
 use Rattle.board.specs.Packing.{unpacked}
-
--- a plain row with an event takes a line
-abbrev pub takes-line : RowKind → ℕ → Bool
-takes-line Plain label = not (eqb label 0)
-takes-line Open label = false
-takes-line Close label = false
-takes-line End label = false
-
--- What a move names: a row that takes no line, or a row with a line of its event. Nothing where the row or the line is
--- not held, there is a line where the row takes none, or none of the row's event.
-abbrev pub named-line : Row → Option Line → Option Named
-named-line r None = None
-named-line r (Some l) = cond (eqb (l .event) (r .label)) (Some (Along r l)) None
-
-abbrev pub named-by : List Line → Row → Option ℕ → Option Named
-named-by ls r None = cond (takes-line (r .kind) (r .label)) None (Some (Alone r))
-named-by ls r (Some j) = cond (takes-line (r .kind) (r .label)) (named-line r (nth ls j)) None
-
-abbrev pub named-row : List Line → Option ℕ → Option Row → Option Named
-named-row ls line None = None
-named-row ls line (Some r) = named-by ls r line
-
-abbrev pub named : Content → Move → Option Named
-named c v = named-row (c .lines) (v .line) (nth (c .rows) (v .row))
-
--- an end row starts at an end moment only
-abbrev pub timely : RowKind → ℕ → ℕ → Bool
-timely Plain moments t = true
-timely Open moments t = true
-timely Close moments t = true
-timely End moments t = end-moment? moments t
-
--- whether what is named starts at the place
-abbrev pub starts-at : ℕ → Named → Place → Bool
-starts-at moments (Alone r) p = eqb (mode p) (r .from) && timely (r .kind) moments (moment p)
-starts-at moments (Along r l) p = eqb (mode p) (r .from) && eqb (moment p) (l .from)
-
--- where it leads from there, at what cost, and what it does to the brackets
-abbrev pub leads : Meaning → Named → Place → Arrival
-leads m (Alone r) p = record { to = (r .to, moment p); cost = r .cost; effect = effect r }
-leads m (Along r l) p = record { to = (r .to, l .to); cost = m .join (r .cost) (l .cost); effect = effect r }
 
 -- the brackets open after one effect, the last one first: at most 4,096, and an end row only where none is open
 abbrev pub bracketed : Effect → List ℕ → Result (List ℕ) Refusal

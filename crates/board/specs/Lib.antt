@@ -6,6 +6,11 @@ pub mod Calls
 pub mod Held
 pub mod Moves
 pub mod Paths
+pub mod Arrivals
 pub mod Packing
 pub mod Checks
 pub mod Checkers
+pub mod Settling
+pub mod Computing
+pub mod Ease
+pub mod Promises

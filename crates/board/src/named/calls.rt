@@ -3,7 +3,7 @@ ghost use mathlib.Core.Path.{_≡_};
 ghost use Rattle.std.specs.Runs.{nth};
 ghost use Rattle.board.specs.Held.{held};
 ghost use Rattle.board.specs.Moves.{effect, end-moment?};
-ghost use Rattle.board.specs.Checks.{takes-line, named, timely, starts-at, leads};
+ghost use Rattle.board.specs.Arrivals.{takes-line, named, timely, starts-at, leads, arrival-on};
 use crate::moves::Arrival;
 use crate::moves::Effect;
 use crate::moves::Move;
@@ -54,7 +54,9 @@ impl Named {
         ensures { λ r. ⌜ r ≡ starts-at moments (now (self .entry)) place ⌝ }
     {
         match self {
-            Named::Alone(row) => place.0 == row.from && row.timely(moments, place.1),
+            Named::Alone(row) => place.0 == row.from
+                && place.1 < moments
+                && row.timely(moments, place.1),
             Named::Along(row, line) => place.0 == row.from && place.1 == line.from,
         }
     }
@@ -102,6 +104,19 @@ impl Tables {
         };
         if line.event == row.label {
             Some(Named::Along(row, line))
+        } else {
+            None
+        }
+    }
+    // Where the move leads from the place, if it starts there.
+    pub(crate) fn arrival<K: Kind>(&self, v: Move, place: Place) -> Option<Arrival>
+        ensures { λ r. ⌜ r ≡ arrival-on meaning (held (now (self .entry))) v place ⌝ }
+    {
+        let Some(named) = self.named(v) else {
+            return None;
+        };
+        if named.starts_at(self.moments(), place) {
+            Some(named.leads::<K>(place))
         } else {
             None
         }

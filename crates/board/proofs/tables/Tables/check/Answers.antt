@@ -1,25 +1,19 @@
 use mathlib.Core.Path.{_≡_, sym, subst, ap, _∙_}
 use mathlib.Core.List.{List}
-use Prim.Native.Nat.{ℕ, _<_}
-use native.Mathlib.Omega.{arith}
+use Prim.Native.Nat.{ℕ}
 use Rattle.std.specs.declared.result.Result.{Result}
 use Rattle.costs.specs.Meaning.{Meaning}
 use Rattle.board.specs.declared.check.Fault.{Fault}
-use Rattle.board.specs.declared.row.Line.{Line}
 use Rattle.board.specs.declared.tables.Tables.{Tables}
 use Rattle.board.specs.Held.{held}
 use Rattle.board.specs.Checks.{Progress, checked-from, check-answer, Accepts-readings}
 use Rattle.board.specs.Checkers.{progress-of}
-use Rattle.board.proofs.Elements.{each-front}
-use Rattle.board.proofs.Accepting.{Lines-on, accepts}
+use Rattle.board.proofs.Accepting.{accepts}
 use Rattle.board.proofs.Checked.{checked-more, checked-stops, checked-short, checked-whole}
 use Rattle.board.proofs.tables.Tables.check.Needs as need
 
-lines-on : (t : Tables) → Lines-on (held t)
-lines-on t = each-front (λ (l : Line). l .to < t .moments) (t .lines) (t .«line_count») (omega (arith, t .room .1, t .long .1)) (λ k d h. t .«lines_in» k d h .1)
-
 readings : (m : Meaning) (t : Tables) (xs : List ℕ) (r : Result ℕ Fault) → r ≡ check-answer m (held t) xs → Accepts-readings m (held t) xs r
-readings m t xs r e = subst (Accepts-readings m (held t) xs) (sym e) (accepts (lines-on t) (t .sized .1) xs)
+readings m t xs r e = subst (Accepts-readings m (held t) xs) (sym e) (accepts xs)
 
 pub loop-index-holds : need.loop-index-holds
 loop-index-holds g c = ap (λ (w : Progress). checked-from (g .K·Kind .meaning) (held (c .args .self .now)) w 0 (c .args .moves .now)) (c .new-checker .ensures)
