@@ -2,7 +2,7 @@
 use mathlib.Core.Path.{_≡_, refl, sym, subst}
 use mathlib.Core.Bool.{Bool, true, false, cond}
 use mathlib.Core.List.{List, [], _∷_}
-use mathlib.Core.Logic.{_⊎_, inl, inr, ⊎-elim}
+use mathlib.Core.Logic.{inl, inr, ⊎-elim}
 use Prim.Native.Nat.{ℕ}
 use lib.Dec.{eqb}
 use lib.ListN.{length}
@@ -19,7 +19,8 @@ use Rattle.board.specs.Moves.{Place, mode, moment, Transition}
 use Rattle.board.specs.Settling.{In, Record, step-record, call-record, Candidate, step, call}
 use Rattle.board.specs.Arrivals.{arrival-on}
 use Rattle.board.specs.Computing.{each, below, moves-of, all-moves, same-place, step-effect, close-effect, close-by, inside-if, inside-by, open-effect, from-arrival, from-record, candidates}
-use Rattle.board.proofs.Membership.{in-split, in-each, each-in, in-below, nth-length}
+use Rattle.board.proofs.Elements.{nth-below}
+use Rattle.board.proofs.Membership.{in-split, in-each, each-in, in-below}
 use Rattle.board.proofs.Diagonal.{place-eq}
 use Rattle.board.proofs.Transitions.{arrival-transition, transition-arrival}
 
@@ -36,8 +37,8 @@ module _ (m : Meaning) (c : Content) where
   transition-listed : (v : Move) (p q : Place) (k : ℕ) (e : Effect) → Transition m c v p q k e → In v (all-moves c)
   transition-listed v p q k e g =
       let ls = below (length (c .lines)) in
-      let row-in = in-below _ _ (nth-length (c .rows) (v .row) (g .by) (g .found)) in
-      let here : In v (moves-of ls (v .row)) = ⊎-elim (λ s. inl (move-eq v _ refl (s .alone))) (λ s. inr (in-each (λ j. record { row = v .row; line = Some j } ∷ []) ls (s .number) v (in-below _ _ (nth-length (c .lines) (s .number) (s .taken) (s .found))) (inl (move-eq v _ refl (s .along))))) (g .time) in
+      let row-in = in-below _ _ (nth-below (c .rows) (v .row) (g .by) (g .found)) in
+      let here : In v (moves-of ls (v .row)) = ⊎-elim (λ s. inl (move-eq v _ refl (s .alone))) (λ s. inr (in-each (λ j. record { row = v .row; line = Some j } ∷ []) ls (s .number) v (in-below _ _ (nth-below (c .lines) (s .number) (s .taken) (s .found))) (inl (move-eq v _ refl (s .along))))) (g .time) in
       in-each (moves-of ls) _ (v .row) v row-in here
 
   -- each candidate is listed

@@ -1,6 +1,6 @@
 -- The records with which settling begins, and finding a pair in a log.
 use mathlib.Core.Path.{_≡_, refl, sym, ap, subst}
-use mathlib.Core.List.{List, [], _∷_, _++_}
+use mathlib.Core.List.{List, [], _∷_}
 use mathlib.Core.Logic.{_⊎_, inl, inr, ⊎-elim}
 use Prim.Native.Nat.{ℕ, zero, suc, _<_}
 use native.Mathlib.Omega.{arith}
@@ -27,7 +27,7 @@ in-starts m p [] h = absurd h
 in-starts m p (x ∷ ps) (inl e) = inl (ap (start-record m) e)
 in-starts m p (x ∷ ps) (inr h) = inr (in-starts m p ps h)
 
-pub in-diagonal : (m : Meaning) (c : Content) (p : Place) → On c p → In (start-record m p) (diagonal m c)
+in-diagonal : (m : Meaning) (c : Content) (p : Place) → On c p → In (start-record m p) (diagonal m c)
 in-diagonal m c p on = in-starts m p _ (in-places p _ _ (on .0) (on .1))
 
 -- every log holds the diagonal

@@ -1,7 +1,6 @@
 -- What the laws of costs give.
 use mathlib.Core.Path.{_≡_, subst}
-use mathlib.Core.Bool.{true, false}
-use mathlib.Core.Logic.{_⊎_, ⊎-elim}
+use mathlib.Core.Logic.{⊎-elim}
 use Prim.Native.Nat.{ℕ}
 use Rattle.std.proofs.shelf.Tests.{both-ways, cases-bool}
 use Rattle.costs.specs.Meaning.{Meaning, Lawful, Cost, NoDearer}
@@ -18,7 +17,7 @@ module _ {m : Meaning} (laws : Lawful m) where
   pub no-dearer-left : (a b : ℕ) → Cost m a → Cost m b → NoDearer m a (m .join a b)
   no-dearer-left a b ha hb = subst (λ x. NoDearer m x (m .join a b)) (laws .free-right a ha) (laws .mono-right (m .free) b a (laws .free-cost) hb ha (laws .free-least b hb))
 
-  pub no-dearer-right : (a b : ℕ) → Cost m a → Cost m b → NoDearer m b (m .join a b)
+  no-dearer-right : (a b : ℕ) → Cost m a → Cost m b → NoDearer m b (m .join a b)
   no-dearer-right a b ha hb = subst (λ x. NoDearer m x (m .join a b)) (laws .free-left b hb) (laws .mono-left (m .free) a b (laws .free-cost) ha hb (laws .free-least a ha))
 
   pub cheaper-no-dearer : (a b : ℕ) → Cost m a → Cost m b → Cheaper m a b → NoDearer m a b
@@ -30,6 +29,9 @@ module _ {m : Meaning} (laws : Lawful m) where
   -- what is no dearer than something cheaper than w is cheaper than w
   pub cheaper-down : (a b w : ℕ) → Cost m a → Cost m b → Cost m w → NoDearer m a b → Cheaper m b w → Cheaper m a w
   cheaper-down a b w ha hb hw e f = ⊎-elim (λ t. absurd (both-ways _ f (laws .trans w a b hw ha hb t e))) (λ n. n) (cases-bool (m .no-dearer w a))
+
+  pub free-below : Cheaper m (m .free) (m .worst)
+  free-below = ⊎-elim (λ w. absurd (laws .differ (laws .antisym _ _ (laws .free-cost) (laws .worst-cost) (laws .free-least _ (laws .worst-cost)) w))) (λ n. n) (cases-bool (m .no-dearer (m .worst) (m .free)))
 
   -- a call is no cheaper than either of its two records
   pub call-first : (a k b l : ℕ) → Cost m a → Cost m k → Cost m b → Cost m l → NoDearer m a (m .join (m .join (m .join a k) b) l)

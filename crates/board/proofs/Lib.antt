@@ -15,3 +15,12 @@ pub mod Decomposing
 pub mod Spelling
 pub mod Pairs
 pub mod Minimal
+pub mod Readings
+pub mod Runs
+pub mod Existence
+pub mod Uniqueness
+pub mod Single
+pub mod Finding
+pub mod Easing
+pub mod Promised
+pub mod Flight

@@ -39,11 +39,6 @@ pub in-below : (i n : ℕ) → i < n → In i (below n)
 in-below i zero h = absurd (omega arith)
 in-below i (suc n) h = ⊎-elim (λ (e : i ≡ n). inl e) (λ (f : i ≡ n → ⊥). inr (in-below i n (omega arith))) (cases-eq i n)
 
-pub nth-length : {A : Type 0} (xs : List A) (i : ℕ) (x : A) → nth xs i ≡ Some x → i < length xs
-nth-length [] i x e = absurd (let z : _≡_ {A = ℕ} 0 1 = cc in omega arith)
-nth-length (y ∷ xs) zero x e = omega arith
-nth-length (y ∷ xs) (suc i) x e = let h = nth-length xs i x e in omega arith
-
 -- what two equations say of one option
 pub some-eq : {A : Type 0} (o : Option A) (x y : A) → o ≡ Some x → o ≡ Some y → x ≡ y
 some-eq o x y e f = cc

@@ -1,20 +1,18 @@
 -- Every balanced path below the worst has a record that is no dearer, and the costs of rounds never fall.
 use mathlib.Core.Path.{_≡_, refl, sym, ap, subst, subst₂, _∙_}
-use mathlib.Core.Bool.{true, false}
 use mathlib.Core.List.{List, [], _∷_, _++_}
 use mathlib.Core.Logic.{_⊎_, inl, inr, ⊎-elim}
 use Prim.Native.Nat.{ℕ}
 use Rattle.std.proofs.shelf.Tests.{both-ways, cases-bool}
 use Rattle.costs.specs.Meaning.{Meaning, Lawful, Cost, NoDearer}
 use Rattle.board.specs.declared.moves.Move.{Move}
-use Rattle.board.specs.declared.moves.Effect.{Effect}
 use Rattle.board.specs.declared.moves.Effect.the-variants.{Quiet, Opens, Closes}
 use Rattle.board.specs.Content.{Content, Sound}
 use Rattle.board.specs.Moves.{Place, On, Transition}
 use Rattle.board.specs.Paths.{Balanced-path}
 use Rattle.board.specs.Settling.{Cheaper, In, Record, start-record, diagonal, Candidate, step, call, Unsettled, Precedes, Round, Rounds, begin, round, Settled}
 use Rattle.board.specs.Promises.{Recorded-within, Least-cost}
-use Rattle.board.proofs.Laws.{no-dearer-same, no-dearer-eq, no-dearer-left, cheaper-no-dearer, join-no-dearer, cheaper-down, call-first, call-second}
+use Rattle.board.proofs.Laws.{no-dearer-same, no-dearer-eq, no-dearer-left, cheaper-no-dearer, join-no-dearer, cheaper-down, free-below, call-first, call-second}
 use Rattle.board.proofs.Membership.{in-right}
 use Rattle.board.proofs.Diagonal.{started, in-rounds, Held, find}
 use Rattle.board.proofs.Decomposing.{Grown-path, none-yet, then-step, then-call, grown-of, grown-cost, transition-cost, transition-on}
@@ -172,6 +170,12 @@ module _ {m : Meaning} {c : Content} (laws : Lawful m) (sound : Sound m c) where
           let w = minimal d on b below in
           no-dearer-at _ _ _ (distinct (d .reached) (w .held) a (w .logged) i (w .leaves) (w .enters)) (w .within) in
           ⊎-elim (λ (t : NoDearer m (m .worst) n). laws .trans (a .cost) (m .worst) n ha (laws .worst-cost) hn (laws .worst-most (a .cost) ha) t) by-record (cases-bool (m .no-dearer (m .worst) n))
+
+  -- a record costs less than the worst
+  pub record-below : {n : ℕ} {log : List Record} → Rounds m c n log → (a : Record) → In a log → Cheaper m (a .cost) (m .worst)
+  record-below begin a i = let e = started m c a i in subst (λ (x : Record). Cheaper m (x .cost) (m .worst)) (sym (e .1)) (free-below laws)
+  record-below (round s r) a (inl e) = subst (λ (x : Record). Cheaper m (x .cost) (m .worst)) (sym e) (r .below)
+  record-below (round s r) a (inr i) = record-below s a i
 
   -- a record of the diagonal is free
   diagonal-free : (a : Record) → In a (diagonal m c) → m .free ≡ a .cost

@@ -1,12 +1,12 @@
 -- Records lie on the board, and a pair has one record at most.
 use mathlib.Core.Path.{_≡_, sym, ap, subst, _∙_}
 use mathlib.Core.List.{List}
-use mathlib.Core.Logic.{_⊎_, inl, inr}
+use mathlib.Core.Logic.{inl, inr}
 use Prim.Native.Nat.{ℕ}
 use Rattle.costs.specs.Meaning.{Meaning, Lawful}
 use Rattle.board.specs.Content.{Content, Sound}
 use Rattle.board.specs.Moves.{On}
-use Rattle.board.specs.Settling.{In, Record, start-record, Candidate, step, call, Rounds, begin, round, Round}
+use Rattle.board.specs.Settling.{In, Record, start-record, Candidate, step, call, Rounds, begin, round}
 use Rattle.board.proofs.Decomposing.{transition-on}
 use Rattle.board.proofs.Diagonal.{started, diagonal-on}
 
@@ -27,7 +27,7 @@ candidate-from : {m : Meaning} {c : Content} {log : List Record} {x : Record} �
 candidate-from on (step a i g) = on a i
 candidate-from on (call a b i g j h) = on a i
 
-pub from-on : {m : Meaning} {c : Content} {n : ℕ} {log : List Record} → Rounds m c n log → (a : Record) → In a log → On c (a .from)
+from-on : {m : Meaning} {c : Content} {n : ℕ} {log : List Record} → Rounds m c n log → (a : Record) → In a log → On c (a .from)
 from-on {m} {c} begin a i = diagonal-on m c a i
 from-on {c = c} (round s r) a (inl e) = subst (λ (x : Record). On c (x .from)) (sym e) (candidate-from (from-on s) (r .candidate))
 from-on (round s r) a (inr i) = from-on s a i

@@ -1,7 +1,7 @@
 -- A record spelled out is a balanced path at the recorded cost.
 use mathlib.Core.Path.{_≡_, refl, sym, ap, subst, _∙_}
 use mathlib.Core.List.{List, [], _∷_, _++_}
-use mathlib.Core.Logic.{_⊎_, inl, inr}
+use mathlib.Core.Logic.{inl, inr}
 use Prim.Native.Nat.{ℕ}
 use Rattle.costs.specs.Meaning.{Meaning, Lawful, Cost}
 use Rattle.costs.specs.Lists.{Costs, joined, joined-onto}
@@ -10,18 +10,12 @@ use Rattle.board.specs.declared.moves.Move.{Move}
 use Rattle.board.specs.declared.moves.Effect.{Effect}
 use Rattle.board.specs.declared.moves.Effect.the-variants.{Quiet, Opens, Closes, Ends}
 use Rattle.board.specs.Content.{Content, Sound}
-use Rattle.board.specs.Moves.{Place, Transition}
+use Rattle.board.specs.Moves.{Place}
 use Rattle.board.specs.Paths.{Path, stop, go, Dyck, empty, both, pair, brackets, Balanced, Running, Balanced-path}
-use Rattle.board.specs.Settling.{In, Record, start-record, Candidate, step, call, Rounds, begin, round, Round}
+use Rattle.board.specs.Settling.{In, Record, start-record, Candidate, step, call, Rounds, begin, round}
+use Rattle.board.proofs.Balance.{brackets-++}
 use Rattle.board.proofs.Decomposing.{transition-cost, path-costs}
 use Rattle.board.proofs.Diagonal.{started}
-
-pub brackets-++ : (a b : List Effect) → brackets (a ++ b) ≡ brackets a ++ brackets b
-brackets-++ [] b = refl
-brackets-++ (Quiet ∷ a) b = brackets-++ a b
-brackets-++ (Opens n ∷ a) b = ap (λ z. Opens n ∷ z) (brackets-++ a b)
-brackets-++ (Closes n ∷ a) b = ap (λ z. Closes n ∷ z) (brackets-++ a b)
-brackets-++ (Ends ∷ a) b = brackets-++ a b
 
 running-++ : (a b : List Effect) → Running a → Running b → Running (a ++ b)
 running-++ [] b h g = g

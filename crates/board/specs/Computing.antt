@@ -45,36 +45,40 @@ step-effect m a v h (Opens n) = []
 step-effect m a v h (Closes n) = []
 step-effect m a v h Ends = []
 
+-- the same, if the step leads somewhere
 abbrev pub step-by : Meaning → Record → Move → Option Arrival → List Record
 step-by m a v None = []
 step-by m a v (Some h) = step-effect m a v h (h .effect)
 
--- the record a with the call opened by o at the cost k, b inside it, closed by w, which leads to h and does e
+-- the record a with the call of bracket n opened by o at the cost k, b inside it, closed by w, which leads to h and does e
 abbrev pub close-effect : Meaning → Record → Move → ℕ → Record → Move → ℕ → Arrival → Effect → List Record
 close-effect m a o k b w n h Quiet = []
 close-effect m a o k b w n h (Opens x) = []
 close-effect m a o k b w n h (Closes x) = cond (eqb n x) (call-record m a o k b w (h .cost) (h .to) ∷ []) []
 close-effect m a o k b w n h Ends = []
 
+-- the same, if the close leads somewhere
 abbrev pub close-by : Meaning → Record → Move → ℕ → Record → Move → ℕ → Option Arrival → List Record
 close-by m a o k b w n None = []
 close-by m a o k b w n (Some h) = close-effect m a o k b w n h (h .effect)
 
--- the calls that are opened by o at the cost k, with b inside, if b starts where o leads
+-- the calls of bracket n opened by o at the cost k, with b inside, if b starts where o leads
 abbrev pub inside-if : Meaning → Content → Record → Move → ℕ → ℕ → Record → Bool → List Record
 inside-if m c a o k n b true = each (λ w. close-by m a o k b w n (arrival-on m c w (b .to))) (all-moves c)
 inside-if m c a o k n b false = []
 
+-- the same, where o leads to t
 abbrev pub inside-by : Meaning → Content → Record → Move → Place → ℕ → ℕ → Record → List Record
 inside-by m c a o t k n b = inside-if m c a o k n b (same-place t (b .from))
 
--- the calls that are opened by o, which leads to h and does e
+-- the calls opened by o, which leads to h and does e
 abbrev pub open-effect : Meaning → Content → List Record → Record → Move → Arrival → Effect → List Record
 open-effect m c log a o h Quiet = []
 open-effect m c log a o h (Opens n) = each (inside-by m c a o (h .to) (h .cost) n) log
 open-effect m c log a o h (Closes n) = []
 open-effect m c log a o h Ends = []
 
+-- the same, if the open leads somewhere
 abbrev pub open-by : Meaning → Content → List Record → Record → Move → Option Arrival → List Record
 open-by m c log a o None = []
 open-by m c log a o (Some h) = open-effect m c log a o h (h .effect)
@@ -83,6 +87,7 @@ open-by m c log a o (Some h) = open-effect m c log a o h (h .effect)
 abbrev pub from-arrival : Meaning → Content → List Record → Record → Move → Option Arrival → List Record
 from-arrival m c log a v h = step-by m a v h ++ open-by m c log a v h
 
+-- the same, by where the move leads from the record's end
 abbrev pub from-record : Meaning → Content → List Record → Record → Move → List Record
 from-record m c log a v = from-arrival m c log a v (arrival-on m c v (a .to))
 
@@ -100,11 +105,13 @@ abbrev pub unsettled-of : List Record → List Record → List Record
 unsettled-of log [] = []
 unsettled-of log (x ∷ xs) = cond (unsettled? log x) (x ∷ unsettled-of log xs) (unsettled-of log xs)
 
+-- the test of the lexicographic order
 abbrev pub lex? : List ℕ → List ℕ → Bool
 lex? [] ys = true
 lex? (x ∷ xs) [] = false
 lex? (x ∷ xs) (y ∷ ys) = cond (ltb x y) true (cond (eqb x y) (lex? xs ys) false)
 
+-- whether x precedes y
 abbrev pub precedes? : Meaning → Content → Record → Record → Bool
 precedes? m c x y =
     cond
@@ -117,7 +124,7 @@ abbrev pub first-by : {A : Type 0} → (A → A → Bool) → A → List A → A
 first-by test x [] = x
 first-by test x (y ∷ ys) = first-by test (cond (test x y) x y) ys
 
--- the record that the next round adds, of these for unsettled pairs
+-- the first of these candidates, if it costs less than the worst
 abbrev pub next-of : Meaning → Content → List Record → Option Record
 next-of m c [] = None
 next-of m c (x ∷ xs) =
@@ -127,6 +134,7 @@ next-of m c (x ∷ xs) =
 abbrev pub next : Meaning → Content → List Record → Option Record
 next m c log = next-of m c (unsettled-of log (candidates m c log))
 
+-- the log as it is where there is no next record, else what f makes of the next record
 abbrev pub run-on : List Record → (Record → List Record) → Option Record → List Record
 run-on log f None = log
 run-on log f (Some x) = f x
@@ -157,6 +165,7 @@ ending-effect m a i h (Opens n) = []
 ending-effect m a i h (Closes n) = []
 ending-effect m a i h Ends = record { row = i; cost = m .join (a .cost) (h .cost); moves = a .moves ++ (bare i ∷ []) } ∷ []
 
+-- the same, if the end row leads somewhere
 abbrev pub ending-by : Meaning → Record → ℕ → Option Arrival → List Found
 ending-by m a i None = []
 ending-by m a i (Some h) = ending-effect m a i h (h .effect)
@@ -166,6 +175,7 @@ abbrev pub ending-if : Meaning → Content → ℕ → Record → Bool → List 
 ending-if m c i a true = ending-by m a i (arrival-on m c (bare i) (a .to))
 ending-if m c i a false = []
 
+-- the same, by where the record starts
 abbrev pub ending-at : Meaning → Content → ℕ → Record → List Found
 ending-at m c i a = ending-if m c i a (same-place (a .from) origin)
 
@@ -173,7 +183,7 @@ ending-at m c i a = ending-if m c i a (same-place (a .from) origin)
 abbrev pub readings : Meaning → Content → List Record → List Found
 readings m c log = each (λ i. each (ending-at m c i) log) (below (length (c .rows)))
 
--- x is cheaper than y, or costs the same and its end row is no higher
+-- whether x is cheaper than y, or costs the same and its end row is no higher
 abbrev pub better? : Meaning → Found → Found → Bool
 better? m x y =
     cond
@@ -181,6 +191,7 @@ better? m x y =
     (cond (m .no-dearer (x .cost) (y .cost)) (leb (x .row) (y .row)) false)
     true
 
+-- the best of these readings, if it costs less than the worst
 abbrev pub found-of : Meaning → List Found → Option Found
 found-of m [] = None
 found-of m (x ∷ xs) = let b = first-by (better? m) x xs in cond (m .no-dearer (m .worst) (b .cost)) None (Some b)

@@ -14,3 +14,4 @@ pub mod Settling
 pub mod Computing
 pub mod Ease
 pub mod Promises
+pub mod Examples

@@ -47,6 +47,8 @@ pub record Cheapest (m : Meaning) (c : Content) (log : List Record) : Type 0 whe
   pub eased : (c′ : Content) (log′ : List Record) (k k′ : ℕ) → Sound m c′ → Eased m c c′ → Settled m c′ log′ → Answer m c log k → Answer m c′ log′ k′ → NoDearer m k′ k
   -- any settled log of the content is this one
   pub unique : (log′ : List Record) → Settled m c log′ → log ≡ log′
+  -- each record costs less than the worst
+  pub below : (a : Record) → In a log → Cheaper m (a .cost) (m .worst)
   -- each record is between places of the board
   pub placed : (a : Record) → In a log → On c (a .from) × On c (a .to)
   -- a pair has one record at most
@@ -75,6 +77,7 @@ pub record Computed (m : Meaning) (c : Content) : Type 0 where
   -- there is none exactly if `found` finds none
   pub none : (log : List Record) → Settled m c log → No-reading m c log ↔ (found m c log ≡ None)
 
+-- Of every sound content the above holds.
 abbrev pub Settling-computed : Type 0
 Settling-computed = (m : Meaning) (c : Content) → Lawful m → Sound m c → Computed m c
 

@@ -75,6 +75,7 @@ abbrev pub places : ℕ → ℕ → List Place
 places zero t = []
 places (suc n) t = moments-of n t ++ places n t
 
+-- the records of these places to themselves
 abbrev pub starts : Meaning → List Place → List Record
 starts m [] = []
 starts m (p ∷ ps) = start-record m p ∷ starts m ps
@@ -93,12 +94,13 @@ pub data Candidate (m : Meaning) (c : Content) (log : List Record) : Record → 
 abbrev pub Unsettled : List Record → Place → Place → Type 0
 Unsettled log s q = (a : Record) → In a log → a .from ≡ s → a .to ≡ q → ⊥
 
--- lists of numbers in the order of the dictionary; a list is no later than itself
+-- the lexicographic order of lists of numbers; a list is no later than itself, and no later than one that it begins
 abbrev pub Lex : List ℕ → List ℕ → Type 0
 Lex [] ys = Unit {0}
 Lex (x ∷ xs) [] = ⊥
 Lex (x ∷ xs) (y ∷ ys) = (x < y) ⊎ ((x ≡ y) × Lex xs ys)
 
+-- a move's line as a list of at most one number
 abbrev pub line-key : Option ℕ → List ℕ
 line-key None = []
 line-key (Some j) = j ∷ []

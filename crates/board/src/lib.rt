@@ -8,6 +8,7 @@ mod packing;
 mod refusal;
 mod row;
 mod tables;
+mod theory;
 
 pub use check::Fault;
 pub use draft::Draft;

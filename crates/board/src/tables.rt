@@ -11,12 +11,12 @@ mod calls;
 // Fixed arrays, of which the first `row_count` and `line_count` entries are held.
 #[derive(Clone, Copy)]
 pub struct Tables {
-    modes: u8,
-    moments: u8,
-    rows: [Row; 128],
-    row_count: usize,
-    lines: [Line; 128],
-    line_count: usize,
+    pub(crate) modes: u8,
+    pub(crate) moments: u8,
+    pub(crate) rows: [Row; 128],
+    pub(crate) row_count: usize,
+    pub(crate) lines: [Line; 128],
+    pub(crate) line_count: usize,
     ghost room: { («row_count» ≤ 128) × («line_count» ≤ 128) },
     ghost long: { (length rows ≡ 128) × (length lines ≡ 128) },
     ghost sized: { (0 < modes) × (0 < moments) × (modes * moments ≤ 64) },

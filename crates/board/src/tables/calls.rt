@@ -9,6 +9,8 @@ ghost use Rattle.board.specs.Content.{new};
 ghost use Rattle.board.specs.Calls.{with-size, with-row, with-line, with-row-cost, with-line-cost, without-lines};
 ghost use Rattle.board.specs.Rows.{formed};
 ghost use Rattle.board.specs.Held.{held};
+ghost use Rattle.board.specs.Moves.{place-number};
+use crate::moves::Place;
 use crate::row::Line;
 use crate::row::Row;
 use crate::row::RowKind;
@@ -150,5 +152,12 @@ impl Tables {
         let n = self.line_count;
         self.line_count = 0;
         n
+    }
+    // The number of a place.
+    pub fn place_number(&self, place: Place) -> usize
+        ensures number { λ r. ⌜ r ≡ place-number (held (now (self .entry))) place ⌝ }
+        ensures small { λ r. ⌜ r < 65536 ⌝ }
+    {
+        place.0 as usize * self.moments as usize + place.1 as usize
     }
 }
