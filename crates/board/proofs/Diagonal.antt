@@ -35,7 +35,7 @@ pub in-rounds : {m : Meaning} {c : Content} {n : ℕ} {log : List Record} (p : P
 in-rounds {m} {c} p begin on = in-diagonal m c p on
 in-rounds p (round s r) on = inr (in-rounds p s on)
 
-started-in : (m : Meaning) (a : Record) (ps : List Place) → In a (starts m ps) → (p : Place) × (a ≡ start-record m p) × In p ps
+pub started-in : (m : Meaning) (a : Record) (ps : List Place) → In a (starts m ps) → (p : Place) × (a ≡ start-record m p) × In p ps
 started-in m a [] h = absurd h
 started-in m a (p ∷ ps) (inl e) = (p, e, inl refl)
 started-in m a (p ∷ ps) (inr h) = let r = started-in m a ps h in (r .0, r .1, inr (r .2))
@@ -45,12 +45,12 @@ pub started : (m : Meaning) (c : Content) (a : Record) → In a (diagonal m c) �
 started m c a h = let r = started-in m a _ h in (r .0, r .1)
 
 -- what the diagonal holds lies on the board
-moments-on : (p : Place) (n t : ℕ) → In p (moments-of n t) → (mode p ≡ n) × (moment p < t)
+pub moments-on : (p : Place) (n t : ℕ) → In p (moments-of n t) → (mode p ≡ n) × (moment p < t)
 moments-on p n zero h = absurd h
 moments-on p n (suc t) (inl e) = (ap (λ (x : Place). mode x) e, omega (arith, ap (λ (x : Place). moment x) e))
 moments-on p n (suc t) (inr h) = let r = moments-on p n t h in (r .0, omega arith)
 
-places-on : (p : Place) (n t : ℕ) → In p (places n t) → (mode p < n) × (moment p < t)
+pub places-on : (p : Place) (n t : ℕ) → In p (places n t) → (mode p < n) × (moment p < t)
 places-on p zero t h = absurd h
 places-on p (suc n) t h = ⊎-elim (λ g. let r = moments-on p n t g in (omega arith, r .1)) (λ g. let r = places-on p n t g in (omega arith, r .1)) (in-split p (moments-of n t) (places n t) h)
 

@@ -24,3 +24,14 @@ pub mod Finding
 pub mod Easing
 pub mod Promised
 pub mod Flight
+pub mod Logging
+pub mod Growing
+pub mod Offering
+pub mod Stepping
+pub mod Calling
+pub mod Choosing
+pub mod Pushing
+pub mod Starting
+pub mod Turning
+pub mod Holding
+pub mod Pricing

@@ -23,7 +23,11 @@ distinct (round s r) a b (inl i) (inr j) e f = absurd (r .unsettled b j (sym e �
 distinct (round s r) a b (inr i) (inl j) e f = absurd (r .unsettled a i (e ∙ ap (λ (z : Record). z .from) j) (f ∙ ap (λ (z : Record). z .to) j))
 distinct (round s r) a b (inr i) (inr j) e f = distinct s a b i j e f
 
-candidate-from : {m : Meaning} {c : Content} {log : List Record} {x : Record} → ((a : Record) → In a log → On c (a .from)) → Candidate m c log x → On c (x .from)
+-- each record of the log starts at a place of the board
+abbrev pub Based : Content → List Record → Type 0
+Based c log = (a : Record) → In a log → On c (a .from)
+
+pub candidate-from : {m : Meaning} {c : Content} {log : List Record} {x : Record} → Based c log → Candidate m c log x → On c (x .from)
 candidate-from on (step a i g) = on a i
 candidate-from on (call a b i g j h) = on a i
 
@@ -33,7 +37,7 @@ from-on {c = c} (round s r) a (inl e) = subst (λ (x : Record). On c (x .from)) 
 from-on (round s r) a (inr i) = from-on s a i
 
 module _ {m : Meaning} {c : Content} (laws : Lawful m) (sound : Sound m c) where
-  candidate-to : {log : List Record} {x : Record} → Candidate m c log x → On c (x .to)
+  pub candidate-to : {log : List Record} {x : Record} → Candidate m c log x → On c (x .to)
   candidate-to (step a i g) = transition-on laws sound g
   candidate-to (call a b i g j h) = transition-on laws sound h
 

@@ -37,10 +37,10 @@ lex-antisym (a ∷ x) (b ∷ y) (inr h) (inl g) = absurd (omega (arith, h .0))
 lex-antisym (a ∷ x) (b ∷ y) (inr h) (inr g) = let t = lex-antisym x y (h .1) (g .1) in let e = h .0 in cc
 
 -- the test is true and P holds, or it is false and Q holds
-abbrev Decided : Bool → Type 0 → Type 0 → Type 0
+abbrev pub Decided : Bool → Type 0 → Type 0 → Type 0
 Decided b P Q = ((b ≡ true) × P) ⊎ ((b ≡ false) × Q)
 
-lex-test : (x y : List ℕ) → Decided (lex? x y) (Lex x y) (Lex y x)
+pub lex-test : (x y : List ℕ) → Decided (lex? x y) (Lex x y) (Lex y x)
 lex-test [] y = inl (refl, tt)
 lex-test (a ∷ x) [] = inr (refl, tt)
 lex-test (a ∷ x) (b ∷ y) = first (ltb a b) refl (eqb a b) refl (lex-test x y)
@@ -94,13 +94,13 @@ module _ {m : Meaning} (laws : Lawful m) (c : Content) where
       first true e true f (inl d) = inl (d .0, inr (laws .antisym _ _ hx hy f e, d .1))
       first true e true f (inr d) = inr (d .0, inr (laws .antisym _ _ hy hx e f, d .1))
 
-  precedes-trans : (x y z : Record) → Cost m (x .cost) → Cost m (y .cost) → Cost m (z .cost) → Precedes m c x y → Precedes m c y z → Precedes m c x z
+  pub precedes-trans : (x y z : Record) → Cost m (x .cost) → Cost m (y .cost) → Cost m (z .cost) → Precedes m c x y → Precedes m c y z → Precedes m c x z
   precedes-trans x y z hx hy hz (inl h) (inl g) = inl (cheaper-down laws _ _ _ hx hy hz (cheaper-no-dearer laws _ _ hx hy h) g)
   precedes-trans x y z hx hy hz (inl h) (inr g) = inl (subst (λ k. Cheaper m (x .cost) k) (g .0) h)
   precedes-trans x y z hx hy hz (inr h) (inl g) = inl (subst (λ k. Cheaper m k (z .cost)) (sym (h .0)) g)
   precedes-trans x y z hx hy hz (inr h) (inr g) = inr (h .0 ∙ g .0, lex-trans (key c x) (key c y) (key c z) (h .1) (g .1))
 
-  precedes-same : (x : Record) → Precedes m c x x
+  pub precedes-same : (x : Record) → Precedes m c x x
   precedes-same x = inr (refl, lex-refl (key c x))
 
   -- the first of some candidates is one of them, and precedes all

@@ -46,7 +46,7 @@ module _ {m : Meaning} {c : Content} where
       (place-eq p p′ (g .leaves ∙ ap (λ (r : Row). r .from) b ∙ sym (g′ .leaves)) (t .0), t .1)
 
 -- places of one number are one
-number-eq : (c : Content) (p q : Place) → On c p → On c q → place-number c p ≡ place-number c q → p ≡ q
+pub number-eq : (c : Content) (p q : Place) → On c p → On c q → place-number c p ≡ place-number c q → p ≡ q
 number-eq c p q h g e = place-eq p q (sym (digits-div (mode p) (h .1)) ∙ ap (λ x. x / c .moments) e ∙ digits-div (mode q) (g .1)) (sym (digits-mod (mode p) (h .1)) ∙ ap (λ x. x % c .moments) e ∙ digits-mod (mode q) (g .1))
 
 line-eq : (w w′ : Option ℕ) → line-key w ≡ line-key w′ → w ≡ w′
@@ -62,15 +62,15 @@ plain-quiet Open n e h g = absurd (let z : _≡_ {A = ℕ} 0 1 = cc in omega ari
 plain-quiet Close n e h g = absurd (let z : _≡_ {A = ℕ} 0 1 = cc in omega arith)
 plain-quiet End n e h g = absurd (let z : _≡_ {A = ℕ} 0 1 = cc in omega arith)
 
-opens-not-quiet : (n : ℕ) → Opens n ≡ Quiet → ⊥
+pub opens-not-quiet : (n : ℕ) → Opens n ≡ Quiet → ⊥
 opens-not-quiet n e = let z : _≡_ {A = ℕ} 0 1 = cc in omega arith
 
-closes-not-quiet : (n : ℕ) → Closes n ≡ Quiet → ⊥
+pub closes-not-quiet : (n : ℕ) → Closes n ≡ Quiet → ⊥
 closes-not-quiet n e = let z : _≡_ {A = ℕ} 0 1 = cc in omega arith
 
 module _ {m : Meaning} {c : Content} where
   -- a bracket takes no line and keeps the moment
-  bracket-alone : {v : Move} {p q : Place} {k : ℕ} {e : Effect} → (e ≡ Quiet → ⊥) → Transition m c v p q k e → (v .line ≡ None) × (moment p ≡ moment q)
+  pub bracket-alone : {v : Move} {p q : Place} {k : ℕ} {e : Effect} → (e ≡ Quiet → ⊥) → Transition m c v p q k e → (v .line ≡ None) × (moment p ≡ moment q)
   bracket-alone not-quiet g = ⊎-elim (λ s. (s .alone, s .keeps)) (λ s. absurd (not-quiet (plain-quiet _ _ _ (s .is-plain) (g .does)))) (g .time)
 
   -- one bracket at one moment is between one pair of places

@@ -15,3 +15,11 @@ pub mod Computing
 pub mod Ease
 pub mod Promises
 pub mod Examples
+pub mod Logged
+pub mod Offered
+pub mod Grown
+pub mod Logs
+pub mod Priced
+pub mod Spelled
+pub mod Invariants
+pub mod Questions

@@ -2,11 +2,13 @@
 mod check;
 mod checker;
 mod draft;
+mod log;
 mod moves;
 mod named;
 mod packing;
 mod refusal;
 mod row;
+mod settling;
 mod tables;
 mod theory;
 

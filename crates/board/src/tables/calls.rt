@@ -9,6 +9,7 @@ ghost use Rattle.board.specs.Content.{new};
 ghost use Rattle.board.specs.Calls.{with-size, with-row, with-line, with-row-cost, with-line-cost, without-lines};
 ghost use Rattle.board.specs.Rows.{formed};
 ghost use Rattle.board.specs.Held.{held};
+ghost use Rattle.board.specs.Logged.{pair-of};
 ghost use Rattle.board.specs.Moves.{place-number};
 use crate::moves::Place;
 use crate::row::Line;
@@ -159,5 +160,11 @@ impl Tables {
         ensures small { λ r. ⌜ r < 65536 ⌝ }
     {
         place.0 as usize * self.moments as usize + place.1 as usize
+    }
+    // The number of a pair of places.
+    pub fn pair(&self, from: Place, to: Place) -> usize
+        ensures { λ r. ⌜ r ≡ pair-of (held (now (self .entry))) from to ⌝ }
+    {
+        self.place_number(from) * 64 + self.place_number(to)
     }
 }

@@ -1,0 +1,64 @@
+-- What a log keeps, whatever the kind of cost.
+use mathlib.Core.Path.{_≡_}
+use mathlib.Core.Bool.{Bool, true, false, _&&_}
+use Prim.Native.Nat.{ℕ, _<_, _≤_, min}
+use lib.Dec.{ltb, eqb}
+use lib.ListN.{length, getD}
+use Rattle.std.specs.declared.option.Option.{Option}
+use Rattle.std.specs.declared.option.Option.the-variants.{Some, None}
+use Rattle.board.specs.Moves.{On}
+use Rattle.board.specs.declared.log.Source.{Source}
+use Rattle.board.specs.declared.log.Source.the-variants.{Start, Step, Call}
+use Rattle.board.specs.declared.log.Log.{Log}
+use Rattle.board.specs.declared.tables.Tables.{Tables}
+use Rattle.board.specs.Held.{held}
+use Rattle.board.specs.Logged.{pair-of, record-at}
+use Rattle.board.specs.Logs.{numbered}
+use Rattle.board.specs.declared.moves.Move.{Move}
+use Rattle.board.specs.Spelled.{move-of}
+
+abbrev pub Long : Log → Type 0
+Long l = (length (l .entries) ≡ 4096) × (length (l .index) ≡ 4096) × (length (l .lengths) ≡ 4096) × (l .count ≤ 4096)
+
+-- each record is between places of the tables
+abbrev pub Placed : Tables → Log → Type 0
+Placed t l = (i : ℕ) → i < l .count → On (held t) (numbered l i .from) × On (held t) (numbered l i .to)
+
+abbrev pub is-at? : ℕ → Option ℕ → Bool
+is-at? i None = false
+is-at? i (Some j) = eqb i j
+
+-- the index finds each record
+abbrev pub Found : Tables → Log → Type 0
+Found t l = (i : ℕ) → i < l .count → is-at? i (getD (l .index) (pair-of (held t) (numbered l i .from) (numbered l i .to)) None) ≡ true
+
+-- and nothing else
+abbrev pub points? : Tables → Log → ℕ → Option ℕ → Bool
+points? t l p None = true
+points? t l p (Some i) = ltb i (l .count) && eqb (pair-of (held t) (numbered l i .from) (numbered l i .to)) p
+
+abbrev pub Finds : Tables → Log → Type 0
+Finds t l = (p : ℕ) → points? t l p (getD (l .index) p None) ≡ true
+
+-- what a source refers to stands among the first n
+abbrev pub refers? : ℕ → Source → Bool
+refers? n Start = true
+refers? n (Step i v) = ltb i n
+refers? n (Call i j o w t) = ltb i n && ltb j n
+
+abbrev pub Earlier : Log → Type 0
+Earlier l = (i : ℕ) → i < l .count → refers? i (numbered l i .source) ≡ true
+
+abbrev pub Measured : Log → Type 0
+Measured l = (i : ℕ) → i < l .count → getD (l .lengths) i 0 ≡ min (length (record-at (l .entries) i .moves)) 65536
+
+-- each move has a row and a line of 7 bits
+abbrev pub small-line? : Option ℕ → Bool
+small-line? None = true
+small-line? (Some j) = ltb j 128
+
+abbrev pub small? : Move → Bool
+small? v = ltb (v .row) 128 && small-line? (v .line)
+
+abbrev pub Small-moves : Log → Type 0
+Small-moves l = (i k : ℕ) → i < l .count → small? (move-of l i k) ≡ true
