@@ -27,7 +27,8 @@ use Rattle.board.specs.Moves.{Place, Transition}
 use Rattle.board.specs.Paths.{Path, stop, go, Balanced, stack, Running, Complete}
 use Rattle.board.specs.Packing.{unpacked}
 use Rattle.board.specs.Arrivals.{named, starts-at, leads}
-use Rattle.board.specs.Checks.{bracketed, is-end, Progress, start, arrived, take-named, named-by-number, take-move, or-fault, checked-from, check-answer, Shallow-from, Packs-reading}
+use Rattle.board.specs.Checks.{bracketed, Progress, start, arrived, take-named, named-by-number, take-move, or-fault, checked-from, check-answer, Shallow-from, Packs-reading}
+use Rattle.board.specs.Moves.{is-end}
 use Rattle.board.proofs.Elements.{no-some}
 use Rattle.board.proofs.Naming.{some-in, named-goes, goes-named}
 use Rattle.board.proofs.Balance.{body-stack, stack-body}

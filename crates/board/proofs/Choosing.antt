@@ -12,7 +12,7 @@ use Rattle.std.proofs.shelf.Tests.{both-ways, cases-bool, cases-eq, cases-lt}
 use Rattle.costs.specs.Meaning.{Meaning, Lawful, Cost, NoDearer}
 use Rattle.board.specs.Settling.{Cheaper, Record, Candidate, Precedes, Lex, key, Unsettled, Round}
 use Rattle.board.specs.Moves.{Place, On, place-number}
-use Rattle.board.proofs.Laws.{cheaper-no-dearer, no-dearer-eq}
+use Rattle.board.proofs.Laws.{cheaper-no-dearer, no-dearer-eq, cheaper-up, cheaper-or}
 use Rattle.board.proofs.Precedence.{precedes-trans, precedes-same}
 use Rattle.board.proofs.Minimal.{candidate-cost}
 use Rattle.board.proofs.Membership.{some-eq, none-some}
@@ -34,13 +34,6 @@ vacant-some None x r e = (refl, e)
 vacant-some (Some i) x r e = absurd (none-some _ _ refl e)
 
 module _ {m : Meaning} (laws : Lawful m) where
-  -- cheaper than what is no dearer
-  pub cheaper-up : (a b d : ℕ) → Cost m a → Cost m b → Cost m d → Cheaper m a b → NoDearer m b d → Cheaper m a d
-  cheaper-up a b d ha hb hd c w = ⊎-elim (λ t. absurd (both-ways _ c (laws .trans b d a hb hd ha w t))) (λ n. n) (cases-bool (m .no-dearer d a))
-
-  pub cheaper-or : (a b : ℕ) → Cost m a → Cost m b → NoDearer m a b → Cheaper m a b ⊎ (a ≡ b)
-  cheaper-or a b ha hb w = ⊎-elim (λ t. inr (laws .antisym a b ha hb w t)) (λ n. inl n) (cases-bool (m .no-dearer b a))
-
   module _ (f : ℕ → Option Entry) (priced : (p : ℕ) (r : Entry) → f p ≡ Some r → Cost m (r .cost)) (n : ℕ) where
     last : (P : ℕ → Entry → Type 0) → ((q : ℕ) (r : Entry) → q < n → f q ≡ Some r → P q r) → ((r : Entry) → f n ≡ Some r → P n r) → (q : ℕ) (r : Entry) → q < n + 1 → f q ≡ Some r → P q r
     last P old new q r h e = ⊎-elim (λ (z : q ≡ n). subst (λ (k : ℕ). P k r) (sym z) (new r (ap f (sym z) ∙ e))) (λ (z : q ≡ n → ⊥). old q r (omega arith) e) (cases-eq q n)
@@ -57,7 +50,7 @@ module _ {m : Meaning} (laws : Lawful m) where
     chosen-keep None y e w c = last (λ q r. NoDearer m (m .worst) (r .cost)) c (λ r z. subst (λ (k : Entry). NoDearer m (m .worst) (k .cost)) (some-eq _ _ _ e z) w)
     chosen-keep (Some x) y e w c =
         let h = c .pair-in in
-        let here : Cheaper m (x .cost) (y .cost) ⊎ ((x .cost ≡ y .cost) × (c .pair ≤ n)) = ⊎-elim (λ t. inl t) (λ t. inr (t, omega arith)) (cheaper-or _ _ (priced _ x (c .stands)) (priced n y e) w) in
+        let here : Cheaper m (x .cost) (y .cost) ⊎ ((x .cost ≡ y .cost) × (c .pair ≤ n)) = ⊎-elim (λ t. inl t) (λ t. inr (t, omega arith)) (cheaper-or laws _ _ (priced _ x (c .stands)) (priced n y e) w) in
         record { pair = c .pair; pair-in = omega arith; stands = c .stands; below = c .below; first = last (λ q r. Cheaper m (x .cost) (r .cost) ⊎ ((x .cost ≡ r .cost) × (c .pair ≤ q))) (c .first) (λ r z. subst (λ (k : Entry). Cheaper m (x .cost) (k .cost) ⊎ ((x .cost ≡ k .cost) × (c .pair ≤ n))) (some-eq _ _ _ e z) here) }
 
     pub chosen-take : (x : Option Entry) (y : Entry) → f n ≡ Some y → Cheaper m (y .cost) (limit-of m x) → Chosen m f n x → First m f (n + 1) y
@@ -66,7 +59,7 @@ module _ {m : Meaning} (laws : Lawful m) where
       pair-in = omega arith;
       stands = e;
       below = below x c k;
-      first = last (λ q r. Cheaper m (y .cost) (r .cost) ⊎ ((y .cost ≡ r .cost) × (n ≤ q))) (λ q r h z. inl (cheaper-up _ (limit-of m x) _ (priced n y e) (limit x k) (priced q r z) c (dearer x k q r h z))) (λ r z. inr (ap (λ (w : Entry). w .cost) (some-eq _ _ _ e z), omega arith));
+      first = last (λ q r. Cheaper m (y .cost) (r .cost) ⊎ ((y .cost ≡ r .cost) × (n ≤ q))) (λ q r h z. inl (cheaper-up laws _ (limit-of m x) _ (priced n y e) (limit x k) (priced q r z) c (dearer x k q r h z))) (λ r z. inr (ap (λ (w : Entry). w .cost) (some-eq _ _ _ e z), omega arith));
     }
       where
         limit : (x : Option Entry) → Chosen m f n x → Cost m (limit-of m x)
@@ -75,7 +68,7 @@ module _ {m : Meaning} (laws : Lawful m) where
 
         below : (x : Option Entry) → Cheaper m (y .cost) (limit-of m x) → Chosen m f n x → Cheaper m (y .cost) (m .worst)
         below None c k = c
-        below (Some x) c k = cheaper-up _ (x .cost) _ (priced n y e) (priced _ x (k .stands)) (laws .worst-cost) c (laws .worst-most _ (priced _ x (k .stands)))
+        below (Some x) c k = cheaper-up laws _ (x .cost) _ (priced n y e) (priced _ x (k .stands)) (laws .worst-cost) c (laws .worst-most _ (priced _ x (k .stands)))
 
         dearer : (x : Option Entry) → Chosen m f n x → (q : ℕ) (r : Entry) → q < n → f q ≡ Some r → NoDearer m (limit-of m x) (r .cost)
         dearer None k q r h z = k q r h z

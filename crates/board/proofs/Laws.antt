@@ -1,6 +1,6 @@
 -- What the laws of costs give.
 use mathlib.Core.Path.{_≡_, subst}
-use mathlib.Core.Logic.{⊎-elim}
+use mathlib.Core.Logic.{_⊎_, inl, inr, ⊎-elim}
 use Prim.Native.Nat.{ℕ}
 use Rattle.std.proofs.shelf.Tests.{both-ways, cases-bool}
 use Rattle.costs.specs.Meaning.{Meaning, Lawful, Cost, NoDearer}
@@ -47,3 +47,10 @@ module _ {m : Meaning} (laws : Lawful m) where
       let h2 = laws .join-cost _ b h1 hb in
       let h3 = laws .join-cost _ l h2 hl in
       laws .trans _ _ _ hb h2 h3 (no-dearer-right _ b h1 hb) (no-dearer-left _ l h2 hl)
+
+  -- cheaper than what is no dearer
+  pub cheaper-up : (a b d : ℕ) → Cost m a → Cost m b → Cost m d → Cheaper m a b → NoDearer m b d → Cheaper m a d
+  cheaper-up a b d ha hb hd c w = ⊎-elim (λ t. absurd (both-ways _ c (laws .trans b d a hb hd ha w t))) (λ n. n) (cases-bool (m .no-dearer d a))
+
+  pub cheaper-or : (a b : ℕ) → Cost m a → Cost m b → NoDearer m a b → Cheaper m a b ⊎ (a ≡ b)
+  cheaper-or a b ha hb w = ⊎-elim (λ t. inr (laws .antisym a b ha hb w t)) (λ n. inl n) (cases-bool (m .no-dearer b a))

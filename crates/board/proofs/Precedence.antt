@@ -10,7 +10,7 @@ use Rattle.std.proofs.shelf.Tests.{ltb-true, ltb-false, eqb-true, eqb-false, le
 use Rattle.costs.specs.Meaning.{Meaning, Lawful, Cost}
 use Rattle.board.specs.Content.{Content}
 use Rattle.board.specs.Settling.{Cheaper, In, Record, Lex, key, Precedes}
-use Rattle.board.specs.Computing.{lex?, precedes?, first-by, Found, better?}
+use Rattle.board.specs.Computing.{lex?, precedes?, first-by}
 use Rattle.board.proofs.Laws.{cheaper-no-dearer, cheaper-down}
 
 lex-trans : (x y z : List ℕ) → Lex x y → Lex y z → Lex x z
@@ -106,27 +106,3 @@ module _ {m : Meaning} (laws : Lawful m) (c : Content) where
   -- the first of some candidates is one of them, and precedes all
   pub first-candidate : (x : Record) (xs : List Record) → ((a : Record) → In a (x ∷ xs) → Cost m (a .cost)) → In (first-by (precedes? m c) x xs) (x ∷ xs) × ((y : Record) → In y (x ∷ xs) → Precedes m c (first-by (precedes? m c) x xs) y)
   first-candidate x xs h = first-is (Precedes m c) (λ (a : Record). Cost m (a .cost)) (precedes? m c) precedes-test precedes-trans precedes-same x xs h
-
--- readings, by cost and end row
-abbrev pub Better : Meaning → Found → Found → Type 0
-Better m x y = Cheaper m (x .cost) (y .cost) ⊎ ((x .cost ≡ y .cost) × (x .row ≤ y .row))
-
-module _ {m : Meaning} (laws : Lawful m) where
-  better-test : (x y : Found) → Cost m (x .cost) → Cost m (y .cost) → Decided (better? m x y) (Better m x y) (Better m y x)
-  better-test x y hx hy = first (m .no-dearer (y .cost) (x .cost)) refl (m .no-dearer (x .cost) (y .cost)) refl (leb (x .row) (y .row)) refl
-    where
-      first : (s : Bool) → m .no-dearer (y .cost) (x .cost) ≡ s → (t : Bool) → m .no-dearer (x .cost) (y .cost) ≡ t → (u : Bool) → leb (x .row) (y .row) ≡ u → Decided (cond s (cond t u false) true) (Better m x y) (Better m y x)
-      first false e t f u g = inl (refl, inl e)
-      first true e false f u g = inr (refl, inl f)
-      first true e true f true g = inl (refl, inr (laws .antisym _ _ hx hy f e, leb-true _ _ g))
-      first true e true f false g = inr (refl, inr (laws .antisym _ _ hy hx e f, omega (arith, leb-false _ _ g)))
-
-  better-trans : (x y z : Found) → Cost m (x .cost) → Cost m (y .cost) → Cost m (z .cost) → Better m x y → Better m y z → Better m x z
-  better-trans x y z hx hy hz (inl h) (inl g) = inl (cheaper-down laws _ _ _ hx hy hz (cheaper-no-dearer laws _ _ hx hy h) g)
-  better-trans x y z hx hy hz (inl h) (inr g) = inl (subst (λ k. Cheaper m (x .cost) k) (g .0) h)
-  better-trans x y z hx hy hz (inr h) (inl g) = inl (subst (λ k. Cheaper m k (z .cost)) (sym (h .0)) g)
-  better-trans x y z hx hy hz (inr h) (inr g) = inr (h .0 ∙ g .0, omega (arith, h .1, g .1))
-
-  -- the best of some readings is one of them, and no other is better
-  pub best-reading : (x : Found) (xs : List Found) → ((a : Found) → In a (x ∷ xs) → Cost m (a .cost)) → In (first-by (better? m) x xs) (x ∷ xs) × ((y : Found) → In y (x ∷ xs) → Better m (first-by (better? m) x xs) y)
-  best-reading x xs h = first-is (Better m) (λ (a : Found). Cost m (a .cost)) (better? m) better-test better-trans (λ x. inr (refl, omega arith)) x xs h

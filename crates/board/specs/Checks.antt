@@ -20,7 +20,7 @@ use Rattle.board.specs.declared.refusal.Refusal.{Refusal}
 use Rattle.board.specs.declared.refusal.Refusal.the-variants.{BadMove, NotNext, BadBracket, TooDeep, NoEnd}
 use Rattle.board.specs.declared.check.Fault.{Fault}
 use Rattle.board.specs.Content.{Content}
-use Rattle.board.specs.Moves.{Place, origin}
+use Rattle.board.specs.Moves.{Place, origin, is-end}
 use Rattle.board.specs.Arrivals.{named, starts-at, leads}
 use Rattle.board.specs.Paths.{stack, Complete}
 use Rattle.board.specs.Packing.{unpacked}
@@ -33,12 +33,6 @@ bracketed (Closes n) [] = Err BadBracket
 bracketed (Closes n) (x ∷ st) = cond (eqb x n) (Ok st) (Err BadBracket)
 bracketed Ends [] = Ok []
 bracketed Ends (x ∷ st) = Err BadBracket
-
-abbrev pub is-end : Effect → Bool
-is-end Quiet = false
-is-end (Opens n) = false
-is-end (Closes n) = false
-is-end Ends = true
 
 -- How far a check has come: the place reached, the brackets open there, whether an end row was met, and the costs so
 -- far joined.

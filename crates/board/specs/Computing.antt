@@ -2,17 +2,19 @@
 use mathlib.Core.Bool.{Bool, true, false, cond, _&&_, not}
 use mathlib.Core.List.{List, [], _∷_, _++_}
 use Prim.Native.Nat.{ℕ, zero, suc, _*_}
-use lib.Dec.{eqb, ltb, leb}
+use lib.Dec.{eqb, ltb}
 use lib.ListN.{length}
+use Rattle.std.specs.Runs.{nth}
 use Rattle.std.specs.declared.option.Option.{Option}
 use Rattle.std.specs.declared.option.Option.the-variants.{Some, None}
 use Rattle.costs.specs.Meaning.{Meaning}
+use Rattle.board.specs.declared.row.Row.{Row}
 use Rattle.board.specs.declared.moves.Move.{Move}
 use Rattle.board.specs.declared.moves.Effect.{Effect}
 use Rattle.board.specs.declared.moves.Effect.the-variants.{Quiet, Opens, Closes, Ends}
 use Rattle.board.specs.declared.moves.Arrival.{Arrival}
 use Rattle.board.specs.Content.{Content}
-use Rattle.board.specs.Moves.{Place, mode, moment, origin}
+use Rattle.board.specs.Moves.{Place, mode, moment, place-number, is-end}
 use Rattle.board.specs.Arrivals.{arrival-on}
 use Rattle.board.specs.Settling.{Record, bare, step-record, call-record, diagonal, key}
 
@@ -152,50 +154,53 @@ pair-count c = (c .modes * c .moments) * (c .modes * c .moments)
 unfoldable pub settled-log : Meaning → Content → List Record
 settled-log m c = run m c (pair-count c) (diagonal m c)
 
+-- whether the record goes from the place numbered s to the place numbered q
+abbrev pub joins? : Content → Record → ℕ → ℕ → Bool
+joins? c a s q = eqb (place-number c (a .from)) s && eqb (place-number c (a .to)) q
+
+-- the record of the log from the place numbered s to the place numbered q, if it has one
+unfoldable pub record-between : Content → List Record → ℕ → ℕ → Option Record
+record-between c [] s q = None
+record-between c (a ∷ log) s q = cond (joins? c a s q) (Some a) (record-between c log s q)
+
 -- a reading: its end row, its cost and its moves
 pub record Found : Type 0 where
   pub row : ℕ
   pub cost : ℕ
   pub moves : List Move
 
--- the reading by the record a and the end row i, which leads to h and does e
-abbrev pub ending-effect : Meaning → Record → ℕ → Arrival → Effect → List Found
-ending-effect m a i h Quiet = []
-ending-effect m a i h (Opens n) = []
-ending-effect m a i h (Closes n) = []
-ending-effect m a i h Ends = record { row = i; cost = m .join (a .cost) (h .cost); moves = a .moves ++ (bare i ∷ []) } ∷ []
+-- the record a and then the row i, which leads to h, if that is an end row
+abbrev pub ending : Meaning → ℕ → Option Arrival → Option Record → Option Found
+ending m i None a = None
+ending m i (Some h) None = None
+ending m i (Some h) (Some a) =
+    cond (is-end (h .effect)) (Some (record { row = i; cost = m .join (a .cost) (h .cost); moves = a .moves ++ (bare i ∷ []) })) None
 
--- the same, if the end row leads somewhere
-abbrev pub ending-by : Meaning → Record → ℕ → Option Arrival → List Found
-ending-by m a i None = []
-ending-by m a i (Some h) = ending-effect m a i h (h .effect)
+-- the reading by the row i at the place p: the record from place 0 to p, and that row
+abbrev pub reading-at : Meaning → Content → List Record → ℕ → Place → Option Found
+reading-at m c log i p = ending m i (arrival-on m c (bare i) p) (record-between c log 0 (place-number c p))
 
--- the same if the record starts at place 0
-abbrev pub ending-if : Meaning → Content → ℕ → Record → Bool → List Found
-ending-if m c i a true = ending-by m a i (arrival-on m c (bare i) (a .to))
-ending-if m c i a false = []
+-- the better of two readings, of which the first comes first where they tie; one that is no cheaper than the worst is none
+abbrev pub better : Meaning → Option Found → Option Found → Option Found
+better m b None = b
+better m None (Some x) = cond (m .no-dearer (m .worst) (x .cost)) None (Some x)
+better m (Some b) (Some x) = cond (m .no-dearer (b .cost) (x .cost)) (Some b) (Some x)
 
--- the same, by where the record starts
-abbrev pub ending-at : Meaning → Content → ℕ → Record → List Found
-ending-at m c i a = ending-if m c i a (same-place (a .from) origin)
+-- the best of b and the readings by the row i in the mode n at the moments below t
+unfoldable pub best-moments : Meaning → Content → List Record → ℕ → ℕ → ℕ → Option Found → Option Found
+best-moments m c log i n zero b = b
+best-moments m c log i n (suc t) b = better m (best-moments m c log i n t b) (reading-at m c log i (n, t))
 
--- all readings of a log
-abbrev pub readings : Meaning → Content → List Record → List Found
-readings m c log = each (λ i. each (ending-at m c i) log) (below (length (c .rows)))
+-- the mode that a row leaves
+abbrev pub mode-left : Option Row → ℕ
+mode-left None = 0
+mode-left (Some r) = r .from
 
--- whether x is cheaper than y, or costs the same and its end row is no higher
-abbrev pub better? : Meaning → Found → Found → Bool
-better? m x y =
-    cond
-    (m .no-dearer (y .cost) (x .cost))
-    (cond (m .no-dearer (x .cost) (y .cost)) (leb (x .row) (y .row)) false)
-    true
-
--- the best of these readings, if it costs less than the worst
-abbrev pub found-of : Meaning → List Found → Option Found
-found-of m [] = None
-found-of m (x ∷ xs) = let b = first-by (better? m) x xs in cond (m .no-dearer (m .worst) (b .cost)) None (Some b)
+-- the best of the readings by the rows below n
+unfoldable pub best-rows : Meaning → Content → List Record → ℕ → Option Found
+best-rows m c log zero = None
+best-rows m c log (suc n) = best-moments m c log n (mode-left (nth (c .rows) n)) (c .moments) (best-rows m c log n)
 
 -- the recorded reading of a log, if it has one
 unfoldable pub found : Meaning → Content → List Record → Option Found
-found m c log = found-of m (readings m c log)
+found m c log = best-rows m c log (length (c .rows))

@@ -1,6 +1,6 @@
 -- What a move does: from which place to which, at what cost, and what it does to the brackets.
 use mathlib.Core.Path.{_≡_}
-use mathlib.Core.Bool.{Bool}
+use mathlib.Core.Bool.{Bool, true, false}
 use mathlib.Core.Logic.{_⊎_}
 use Prim.Native.Nat.{ℕ, suc, _+_, _*_, _<_}
 use lib.Dec.{eqb}
@@ -48,6 +48,13 @@ effect-of End n = Ends
 
 abbrev pub effect : Row → Effect
 effect r = effect-of (r .kind) (r .label)
+
+-- whether it ends the reading
+abbrev pub is-end : Effect → Bool
+is-end Quiet = false
+is-end (Opens n) = false
+is-end (Closes n) = false
+is-end Ends = true
 
 -- Which rows are moves: each that the content holds, by its number.
 abbrev pub Is-move : Content → ℕ → Row → Type 0
