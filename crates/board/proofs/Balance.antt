@@ -13,12 +13,12 @@ use Rattle.std.specs.declared.option.Option.{Option}
 use Rattle.std.specs.declared.option.Option.the-variants.{Some, None}
 use Rattle.board.specs.Paths.{brackets, Balanced, Dyck, empty, both, pair, stack, Grammar-is-stack}
 
-over-dyck : {w : List Effect} → Dyck w → (rest : List Effect) (st : List ℕ) → stack (w ++ rest) st ≡ stack rest st
+pub over-dyck : {w : List Effect} → Dyck w → (rest : List Effect) (st : List ℕ) → stack (w ++ rest) st ≡ stack rest st
 over-dyck empty rest st = refl
 over-dyck (both {a} {b} d e) rest st = ap (λ z. stack z st) (append-assoc a b rest) ∙ over-dyck d (b ++ rest) st ∙ over-dyck e rest st
 over-dyck (pair {a} n d) rest st = ap (λ z. stack z (n ∷ st)) (append-assoc a (Closes n ∷ []) rest) ∙ over-dyck d (Closes n ∷ rest) (n ∷ st) ∙ ap (λ t. cond t (stack rest st) None) (eq-eqb n n refl)
 
-stack-brackets : (es : List Effect) (st : List ℕ) → stack es st ≡ stack (brackets es) st
+pub stack-brackets : (es : List Effect) (st : List ℕ) → stack es st ≡ stack (brackets es) st
 stack-brackets [] st = refl
 stack-brackets (Quiet ∷ es) st = stack-brackets es st
 stack-brackets (Opens n ∷ es) st = stack-brackets es (n ∷ st)

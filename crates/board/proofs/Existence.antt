@@ -53,18 +53,18 @@ length-pairs-from ps s = length-each (λ q. pair-of s q ∷ []) 1 (λ q. refl) p
 length-pairs : (ps : List Place) → length (pairs ps) ≡ length ps * length ps
 length-pairs ps = length-each (pairs-from ps) (length ps) (length-pairs-from ps) ps
 
-abbrev board-pairs : Content → List Record
+abbrev pub board-pairs : Content → List Record
 board-pairs c = pairs (places (c .modes) (c .moments))
 
-length-board-pairs : (c : Content) → length (board-pairs c) ≡ pair-count c
+pub length-board-pairs : (c : Content) → length (board-pairs c) ≡ pair-count c
 length-board-pairs c = length-pairs (places (c .modes) (c .moments)) ∙ ap (λ k. k * k) (length-places (c .modes) (c .moments))
 
 -- how many of the pairs are unsettled
-abbrev open-in : List Record → List Record → ℕ
+abbrev pub open-in : List Record → List Record → ℕ
 open-in log [] = 0
 open-in log (p ∷ ps) = cond (unsettled? log p) (suc (open-in log ps)) (open-in log ps)
 
-open-length : (log ps : List Record) → open-in log ps ≤ length ps
+pub open-length : (log ps : List Record) → open-in log ps ≤ length ps
 open-length log [] = omega arith
 open-length log (p ∷ ps) = bound (unsettled? log p) (open-length log ps)
   where
@@ -105,7 +105,7 @@ module _ (log : List Record) (x : Record) where
       bound false false h = omega arith
 
 module _ {m : Meaning} {c : Content} (laws : Lawful m) (sound : Sound m c) where
-  round-fewer : {n : ℕ} {log : List Record} {x : Record} → Rounds m c n log → Round m c log x → open-in (x ∷ log) (board-pairs c) < open-in log (board-pairs c)
+  pub round-fewer : {n : ℕ} {log : List Record} {x : Record} → Rounds m c n log → Round m c log x → open-in (x ∷ log) (board-pairs c) < open-in log (board-pairs c)
   round-fewer {log = log} {x = x} s r =
       let p = pair-of (x .from) (x .to) in
       let on = candidate-on laws sound s (r .candidate) in

@@ -34,6 +34,9 @@ use Rattle.board.proofs.Readings.{reading-cost, end-alone}
 use Rattle.board.proofs.Single.{one-reading}
 use Rattle.board.proofs.Existence.{exists}
 
+pub joins-parts : (c : Content) (a : Record) (s q : ℕ) → joins? c a s q ≡ true → (place-number c (a .from) ≡ s) × (place-number c (a .to) ≡ q)
+joins-parts c a s q e = let z = and-parts _ _ e in (eqb-true _ _ (z .0), eqb-true _ _ (z .1))
+
 -- what is found between two places is a record of the log between them
 pub between-some : (c : Content) (log : List Record) (s q : ℕ) (a : Record) → record-between c log s q ≡ Some a → In a log × (joins? c a s q ≡ true)
 unfolding record-between

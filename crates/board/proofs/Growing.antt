@@ -51,8 +51,11 @@ module _ {m : Meaning} {c : Content} {log : List Record} where
   upto-eq {a} {b} Q i n h k g = let e : i ≡ n = omega arith in subst (λ (j : ℕ). Grown m c log a b (Upto Q j)) e g
 
 -- the numbers of places
+pub place-below : (c : Content) (p : Place) → On c p → place-number c p < c .modes * c .moments
+place-below c p on = omega (arith, mul-add-lt (mode p) (c .moments) (moment p) (c .modes) (on .0) (on .1), mul-comm (c .moments) (c .modes))
+
 pub number-in : (c : Content) (p : Place) → c .modes * c .moments ≤ 64 → On c p → place-number c p < 64
-number-in c p small on = omega (arith, mul-add-lt (mode p) (c .moments) (moment p) (c .modes) (on .0) (on .1), mul-comm (c .moments) (c .modes))
+number-in c p small on = omega (arith, place-below c p on)
 
 pub pair-in : (c : Content) (s q : Place) → c .modes * c .moments ≤ 64 → On c s → On c q → pair-of c s q < 4096
 pair-in c s q small on on′ = let h = number-in c s small on in let h′ = number-in c q small on′ in omega arith

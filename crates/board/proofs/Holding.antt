@@ -1,22 +1,22 @@
 -- From a book to what a settled board keeps, and back.
 use mathlib.Core.Path.{_≡_, refl, sym, ap, subst, _∙_}
-use mathlib.Core.Bool.{Bool, true, false, _&&_}
-use Prim.Native.Nat.{ℕ, _+_, _*_, _<_, _≤_}
+use mathlib.Core.Bool.{Bool, true, false, cond, _&&_}
+use Prim.Native.Nat.{ℕ, zero, suc, _+_, _*_, _<_, _≤_}
 use native.Mathlib.Omega.{arith}
 use lib.Dec.{ltb, eqb}
 use lib.ListN.{length, getD}
-use Rattle.std.proofs.shelf.Tests.{eq-eqb, eqb-true, lt-ltb, ltb-true, cases-lt}
+use Rattle.std.proofs.shelf.Tests.{eq-eqb, eqb-true, lt-ltb, ltb-true, cases-lt, cases-eq, both-ways, cond-true, cond-false}
 use Rattle.std.specs.declared.option.Option.{Option}
 use Rattle.std.specs.declared.option.Option.the-variants.{Some, None}
 use Rattle.costs.specs.Meaning.{Meaning}
-use Rattle.board.specs.Settling.{In, Record, bare}
+use Rattle.board.specs.Settling.{bare}
 use Rattle.board.specs.Moves.{place-number}
 use Rattle.board.specs.declared.log.Source.{Source}
 use Rattle.board.specs.declared.log.Source.the-variants.{Start, Step, Call}
 use Rattle.board.specs.declared.log.Log.{Log}
 use Rattle.board.specs.declared.tables.Tables.{Tables}
 use Rattle.board.specs.Held.{held}
-use Rattle.board.specs.Logged.{pair-of}
+use Rattle.board.specs.Logged.{pair-of, logged}
 use Rattle.board.specs.Grown.{Refers}
 use Rattle.board.specs.Logs.{Book, Ready, State, numbered, records, nth-record}
 use Rattle.board.specs.Invariants.{Long, Placed, Found, Finds, Earlier, Measured, is-at?, points?, refers?, small-line?, small?, Small-moves}
@@ -24,10 +24,10 @@ use Rattle.board.specs.declared.moves.Move.{Move}
 use Rattle.board.specs.Spelled.{Spells, moves-at, move-of}
 use Rattle.board.specs.Packing.{Small-line, Small}
 use Rattle.std.proofs.shelf.Lists.{getD-past}
-use mathlib.Core.Logic.{_⊎_, ⊎-elim}
-use Rattle.board.specs.Questions.{Joins, Both-in}
-use Rattle.board.proofs.Logging.{in-logged, logged-in}
-use Rattle.board.proofs.Growing.{number-in}
+use mathlib.Core.Logic.{_⊎_, inl, inr, ⊎-elim}
+use Rattle.board.specs.Computing.{joins?, record-between}
+use Rattle.board.proofs.Finding.{joins-parts}
+use Rattle.board.proofs.Growing.{place-below, number-in}
 
 and-both : (a b : Bool) → a ≡ true → b ≡ true → a && b ≡ true
 and-both true b e f = f
@@ -81,21 +81,59 @@ at-some : (i : ℕ) (o : Option ℕ) → is-at? i o ≡ true → o ≡ None → 
 at-some i None h e = let z : _≡_ {A = ℕ} 0 1 = cc in omega arith
 at-some i (Some j) h e = let z : _≡_ {A = ℕ} 0 1 = cc in omega arith
 
--- the record of a pair of places
-pub joins-at : (t : Tables) (l : Log) → Placed t l → Finds t l → (s q i : ℕ) → q < 64 → getD (l .index) (s * 64 + q) None ≡ Some i → Joins (held t) (nth-record l i) s q
-joins-at t l on f s q i hq e =
-    let k = found-at t l f (s * 64 + q) i e in
-    let h = number-in (held t) (numbered l i .to) (t .sized .2) (on i (k .0) .1) in
-    let k1 = k .1 in
-    (omega arith, omega arith)
+-- the entries before n, of which the one numbered i alone is of the pair
+between-at : (t : Tables) (l : Log) (s q i n : ℕ) → i < n → ((j : ℕ) → j < n → joins? (held t) (nth-record l j) s q ≡ true → j ≡ i) → joins? (held t) (nth-record l i) s q ≡ true → record-between (held t) (logged (l .entries) n) s q ≡ Some (nth-record l i)
+unfolding logged record-between
+between-at t l s q i zero h only here = absurd (omega arith)
+between-at t l s q i (suc n) h only here = by (λ k. between-at t l s q i n k (λ j x. only j (omega arith)) here) (cases-eq i n) (joins? (held t) (nth-record l n) s q) refl
+  where
+    by : (i < n → record-between (held t) (logged (l .entries) n) s q ≡ Some (nth-record l i)) → (i ≡ n) ⊎ (i ≡ n → ⊥) → (b : Bool) → joins? (held t) (nth-record l n) s q ≡ b → cond (joins? (held t) (nth-record l n) s q) (Some (nth-record l n)) (record-between (held t) (logged (l .entries) n) s q) ≡ Some (nth-record l i)
+    by rest (inl e) true f = cond-true _ _ _ f ∙ ap (λ j. Some (nth-record l j)) (sym e)
+    by rest (inl e) false f = absurd (both-ways _ f (ap (λ j. joins? (held t) (nth-record l j) s q) (sym e) ∙ here))
+    by rest (inr ne) true f = absurd (let z = only n (omega arith) f in omega (arith, ne (sym z)))
+    by rest (inr ne) false f = cond-false _ _ _ f ∙ rest (omega arith)
 
-pub none-joins : (t : Tables) (l : Log) → Found t l → (s q : ℕ) → getD (l .index) (s * 64 + q) None ≡ None → (a : Record) → In a (records l) → Joins (held t) a s q → ⊥
-none-joins t l f s q e a i j =
-    let g = logged-in (l .entries) (l .count) a i in
-    let x : place-number (held t) (numbered l (g .0) .from) ≡ s = ap (λ (y : Record). place-number (held t) (y .from)) (sym (g .2)) ∙ j .0 in
-    let y : place-number (held t) (numbered l (g .0) .to) ≡ q = ap (λ (y : Record). place-number (held t) (y .to)) (sym (g .2)) ∙ j .1 in
-    let z : pair-of (held t) (numbered l (g .0) .from) (numbered l (g .0) .to) ≡ s * 64 + q = omega arith in
-    at-some (g .0) _ (f (g .0) (g .1)) (ap (λ (p : ℕ). getD (l .index) p None) z ∙ e)
+between-past : (t : Tables) (l : Log) (s q n : ℕ) → ((j : ℕ) → j < n → joins? (held t) (nth-record l j) s q ≡ true → ⊥) → record-between (held t) (logged (l .entries) n) s q ≡ None
+unfolding logged record-between
+between-past t l s q zero none = refl
+between-past t l s q (suc n) none = by (between-past t l s q n (λ j x. none j (omega arith))) (joins? (held t) (nth-record l n) s q) refl
+  where
+    by : record-between (held t) (logged (l .entries) n) s q ≡ None → (b : Bool) → joins? (held t) (nth-record l n) s q ≡ b → cond (joins? (held t) (nth-record l n) s q) (Some (nth-record l n)) (record-between (held t) (logged (l .entries) n) s q) ≡ None
+    by rest true f = absurd (none n (omega arith) f)
+    by rest false f = cond-false _ _ _ f ∙ rest
+
+-- the index leads to the entry of a pair
+module _ (t : Tables) (l : Log) (placed : Placed t l) (found : Found t l) (finds : Finds t l) (s q : ℕ) where
+  -- an entry of the pair stands in the index
+  joined-found : (j : ℕ) → j < l .count → joins? (held t) (nth-record l j) s q ≡ true → is-at? j (getD (l .index) (s * 64 + q) None) ≡ true
+  joined-found j h e =
+      let z = joins-parts (held t) (nth-record l j) s q e in
+      let a = z .0 in
+      let b = z .1 in
+      let p : pair-of (held t) (numbered l j .from) (numbered l j .to) ≡ s * 64 + q = omega arith in
+      ap (λ n. is-at? j (getD (l .index) n None)) (sym p) ∙ found j h
+
+  pub index-some : (i : ℕ) → q < 64 → getD (l .index) (s * 64 + q) None ≡ Some i → (i < l .count) × (record-between (held t) (records l) s q ≡ Some (nth-record l i))
+  index-some i hq e =
+      let k = found-at t l finds (s * 64 + q) i e in
+      let h = number-in (held t) (numbered l i .to) (t .sized .2) (placed i (k .0) .1) in
+      let k1 = k .1 in
+      let from-is : place-number (held t) (numbered l i .from) ≡ s = omega arith in
+      let to-is : place-number (held t) (numbered l i .to) ≡ q = omega arith in
+      (k .0, between-at t l s q i (l .count) (k .0) (λ j x f. eqb-true j i (ap (is-at? j) (sym e) ∙ joined-found j x f)) (and-both _ _ (eq-eqb _ _ from-is) (eq-eqb _ _ to-is)))
+
+  pub index-none : getD (l .index) (s * 64 + q) None ≡ None → record-between (held t) (records l) s q ≡ None
+  index-none e = between-past t l s q (l .count) (λ j x f. at-some j _ (joined-found j x f) e)
+
+  -- numbers that are no places join nothing
+  pub place-none : (t .modes * t .moments ≤ s) ⊎ (t .modes * t .moments ≤ q) → record-between (held t) (records l) s q ≡ None
+  place-none out = between-past t l s q (l .count) (λ j x f.
+      let z = joins-parts (held t) (nth-record l j) s q f in
+      let a = z .0 in
+      let b = z .1 in
+      let h = place-below (held t) (numbered l j .from) (placed j x .0) in
+      let k = place-below (held t) (numbered l j .to) (placed j x .1) in
+      ⊎-elim (λ y. omega arith) (λ y. omega arith) out)
 
 -- small moves, by the test and back
 line-test : (o : Option ℕ) → Small-line o → small-line? o ≡ true

@@ -35,3 +35,8 @@ pub mod Starting
 pub mod Turning
 pub mod Holding
 pub mod Pricing
+pub mod Packs
+pub mod Depth
+pub mod Scanning
+pub mod Answering
+pub mod Telling

@@ -9,6 +9,7 @@ use Rattle.board.proofs.Uniqueness.{unique}
 use Rattle.board.proofs.Single.{one-reading}
 use Rattle.board.proofs.Finding.{answered, computed}
 use Rattle.board.proofs.Easing.{answer-eased}
+use Rattle.board.proofs.Depth.{settled-checked}
 
 pub settling-promises : Settling-promises
 settling-promises m c laws sound = (
@@ -27,6 +28,7 @@ settling-promises m c laws sound = (
     apart = distinct (d .reached);
     single = λ k n vs ws r s. one-reading laws sound d r s;
     answered = answered laws sound (d .reached);
+    checked = settled-checked laws sound d;
     rising = rising laws sound (d .reached);
   },
 )

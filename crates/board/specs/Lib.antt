@@ -23,3 +23,6 @@ pub mod Priced
 pub mod Spelled
 pub mod Invariants
 pub mod Questions
+pub mod Entries
+pub mod Boards
+pub mod Depths

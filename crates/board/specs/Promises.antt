@@ -1,9 +1,10 @@
 -- What settling promises, for every lawful meaning and every sound content.
 use mathlib.Core.Path.{_≡_}
-use mathlib.Core.List.{List, _∷_, _++_}
+use mathlib.Core.List.{List, _∷_, _++_, map}
 use mathlib.Core.Logic.{_↔_}
 use Prim.Native.Nat.{ℕ}
 use Rattle.std.specs.declared.option.Option.the-variants.{Some, None}
+use Rattle.std.specs.declared.result.Result.the-variants.{Ok}
 use Rattle.costs.specs.Meaning.{Meaning, Lawful, NoDearer}
 use Rattle.board.specs.declared.moves.Move.{Move}
 use Rattle.board.specs.declared.moves.Arrival.{Arrival}
@@ -12,6 +13,8 @@ use Rattle.board.specs.Moves.{Place, On, Transition}
 use Rattle.board.specs.Paths.{Balanced-path, Complete}
 use Rattle.board.specs.Settling.{Cheaper, In, Record, Settled, Recorded-reading, No-reading, Answer}
 use Rattle.board.specs.Arrivals.{arrival-on}
+use Rattle.board.specs.Packing.{packed}
+use Rattle.board.specs.Checks.{check-answer}
 use Rattle.board.specs.Computing.{settled-log, found}
 use Rattle.board.specs.Ease.{Eased}
 
@@ -28,6 +31,10 @@ pub record Least-cost (m : Meaning) (c : Content) (s q : Place) (k : ℕ) : Type
   pub moves : List Move
   pub path : Balanced-path m c moves s q k
   pub least : (vs : List Move) (n : ℕ) → Balanced-path m c vs s q n → NoDearer m k n
+
+-- what path writes, the check accepts, at the recorded cost
+abbrev pub Recorded-is-checked : Meaning → Content → List Record → Type 0
+Recorded-is-checked m c log = (k : ℕ) (vs : List Move) → Recorded-reading m c log k vs → check-answer m c (map packed vs) ≡ Ok k
 
 -- What holds of a settled log.
 pub record Cheapest (m : Meaning) (c : Content) (log : List Record) : Type 0 where
@@ -57,6 +64,8 @@ pub record Cheapest (m : Meaning) (c : Content) (log : List Record) : Type 0 whe
   pub single : (k n : ℕ) (vs ws : List Move) → Recorded-reading m c log k vs → Recorded-reading m c log n ws → (k ≡ n) × (vs ≡ ws)
   -- there is an answer
   pub answered : (k : ℕ) × Answer m c log k
+  -- what path writes of the recorded reading, the check accepts, at the recorded cost
+  pub checked : Recorded-is-checked m c log
   -- a record is no dearer than one that was settled after it
   pub rising : (newer older : List Record) (a b : Record) → log ≡ newer ++ (b ∷ older) → In a older → NoDearer m (a .cost) (b .cost)
 

@@ -1,4 +1,4 @@
-// The board: rows, lines and moves, the draft and its calls, and the check of a list of moves.
+// The board: rows, lines and moves, the draft and its calls, settling, and what a settled board answers.
 mod check;
 mod checker;
 mod draft;
@@ -6,11 +6,13 @@ mod log;
 mod moves;
 mod named;
 mod packing;
+mod reading;
 mod refusal;
 mod row;
+mod settled;
 mod settling;
 mod tables;
-mod theory;
+mod writing;
 
 pub use check::Fault;
 pub use draft::Draft;
@@ -22,3 +24,4 @@ pub use refusal::Refusal;
 pub use row::Line;
 pub use row::Row;
 pub use row::RowKind;
+pub use settled::Settled;

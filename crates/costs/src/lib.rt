@@ -13,3 +13,6 @@ pub use rank::Rank;
 pub use rank::RankKind;
 pub use severity::Severity;
 pub use severity::SeverityKind;
+
+#[cfg(test)]
+mod tests;
