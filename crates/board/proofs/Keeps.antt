@@ -19,7 +19,7 @@ use Rattle.board.specs.declared.refusal.Refusal.{Refusal}
 use Rattle.board.specs.Refusals.{first, unless}
 use Rattle.board.specs.Rows.{formed}
 use Rattle.board.specs.Content.{Content, new, Sound, Sound-row, Sound-line}
-use Rattle.board.specs.Calls.{size-fault, with-size, size-after, row-fault, with-row, row-after, line-faults, line-fault, with-line, line-after, reprice-fault, row-at-cost, line-at-cost, with-row-cost, with-line-cost, reprice-row-after, reprice-line-after, without-lines}
+use Rattle.board.specs.Calls.{size-fault, with-size, size-after, row-fault, with-row, row-after, line-faults, line-fault, with-line, line-after, reprice-fault, row-at-cost, line-at-cost, with-row-cost, with-line-cost, reprice-row-after, reprice-line-after, without-lines, Calls-keep}
 use Rattle.board.proofs.Elements.{no-some, some-no, nth-push, nth-changed, nth-empty, length-changed, factors}
 
 -- where none of the reasons applies, the first does not, nor do the others
@@ -197,3 +197,14 @@ module _ (m : Meaning) where
     sound-rows = λ i x e. row-on c (without-lines c) x refl (h .sound-rows i x e);
     sound-lines = λ i l e. absurd (no-some l e);
   }
+
+pub calls-keep : (m : Meaning) → Calls-keep m
+calls-keep m = record {
+  begun = new-sound m;
+  sized = size-keeps m;
+  row-added = row-keeps m;
+  line-added = line-keeps m;
+  row-repriced = reprice-row-keeps m;
+  line-repriced = reprice-line-keeps m;
+  cleared = clear-keeps m;
+}

@@ -22,6 +22,7 @@ pub mod Uniqueness
 pub mod Single
 pub mod Finding
 pub mod Easing
+pub mod Softening
 pub mod Promised
 pub mod Flight
 pub mod Logging

@@ -1,5 +1,5 @@
 -- The promises of settling, put together.
-use Rattle.board.specs.Promises.{Settling-promises, Settling-computed}
+use Rattle.board.specs.Promises.{Settling-promises, Settling-computed, Board-promises}
 use Rattle.board.proofs.Spelling.{spelled}
 use Rattle.board.proofs.Pairs.{record-on, distinct}
 use Rattle.board.proofs.Minimal.{minimal, least-cost, record-below, rising}
@@ -10,6 +10,8 @@ use Rattle.board.proofs.Single.{one-reading}
 use Rattle.board.proofs.Finding.{answered, computed}
 use Rattle.board.proofs.Easing.{answer-eased}
 use Rattle.board.proofs.Depth.{settled-checked}
+use Rattle.board.proofs.Keeps.{calls-keep}
+use Rattle.board.proofs.Softening.{calls-ease}
 
 pub settling-promises : Settling-promises
 settling-promises m c laws sound = (
@@ -35,3 +37,6 @@ settling-promises m c laws sound = (
 
 pub settling-computed : Settling-computed
 settling-computed m c laws sound = computed laws sound
+
+pub board-promises : Board-promises
+board-promises = record { kept = calls-keep; eased = λ m laws. calls-ease laws; settling = settling-promises; computed = settling-computed }

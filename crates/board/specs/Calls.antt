@@ -13,7 +13,7 @@ use Rattle.board.specs.declared.refusal.Refusal.{Refusal}
 use Rattle.board.specs.declared.refusal.Refusal.the-variants.{NotEmpty, SizeOut, RowsFull, ModeOut, BadRow, LinesFull, MomentOut, NoEvent, NoSuch, NoCost}
 use Rattle.board.specs.Refusals.{first, unless}
 use Rattle.board.specs.Rows.{formed}
-use Rattle.board.specs.Content.{Content}
+use Rattle.board.specs.Content.{Content, new, Sound}
 
 -- Size: sets M and T.
 abbrev pub size-fault : Content → ℕ → ℕ → Option Refusal
@@ -93,3 +93,13 @@ reprice-line-after m c i cost = unless (reprice-fault m (c .lines) i cost) (with
 -- Clear: drops all lines.
 abbrev pub without-lines : Content → Content
 without-lines c = record { modes = c .modes; moments = c .moments; rows = c .rows; lines = [] }
+
+-- Every call keeps a sound content sound, and a new board's is.
+pub record Calls-keep (m : Meaning) : Type 0 where
+  pub begun : Sound m new
+  pub sized : (c : Content) (modes moments : ℕ) → Sound m c → Sound m (size-after c modes moments)
+  pub row-added : (c : Content) (r : Row) → Sound m c → Sound m (row-after m c r)
+  pub line-added : (c : Content) (l : Line) → Sound m c → Sound m (line-after m c l)
+  pub row-repriced : (c : Content) (i cost : ℕ) → Sound m c → Sound m (reprice-row-after m c i cost)
+  pub line-repriced : (c : Content) (i cost : ℕ) → Sound m c → Sound m (reprice-line-after m c i cost)
+  pub cleared : (c : Content) → Sound m c → Sound m (without-lines c)

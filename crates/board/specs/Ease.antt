@@ -6,7 +6,8 @@ use Rattle.std.specs.declared.option.Option.the-variants.{Some}
 use Rattle.costs.specs.Meaning.{Meaning, NoDearer}
 use Rattle.board.specs.declared.row.Row.{Row}
 use Rattle.board.specs.declared.row.Line.{Line}
-use Rattle.board.specs.Content.{Content}
+use Rattle.board.specs.Content.{Content, Sound}
+use Rattle.board.specs.Calls.{with-row, with-line, with-row-cost, with-line-cost}
 
 -- r′ moves as r does, and is no dearer
 pub record Eased-row (m : Meaning) (r r′ : Row) : Type 0 where
@@ -29,3 +30,12 @@ pub record Eased (m : Meaning) (c c′ : Content) : Type 0 where
   pub moments-same : c′ .moments ≡ c .moments
   pub rows-eased : (i : ℕ) (r : Row) → nth (c .rows) i ≡ Some r → (r′ : Row) × (nth (c′ .rows) i ≡ Some r′) × Eased-row m r r′
   pub lines-eased : (i : ℕ) (l : Line) → nth (c .lines) i ≡ Some l → (l′ : Line) × (nth (c′ .lines) i ≡ Some l′) × Eased-line m l l′
+
+-- What eases a sound content: nothing, a row or line added, or one repriced no dearer, and one of these after another.
+pub record Calls-ease (m : Meaning) : Type 0 where
+  pub same : (c : Content) → Sound m c → Eased m c c
+  pub twice : (a b c : Content) → Sound m a → Sound m b → Sound m c → Eased m a b → Eased m b c → Eased m a c
+  pub row-added : (c : Content) (r : Row) → Sound m c → Eased m c (with-row c r)
+  pub line-added : (c : Content) (l : Line) → Sound m c → Eased m c (with-line c l)
+  pub row-repriced : (c : Content) (i k : ℕ) (r : Row) → Sound m c → nth (c .rows) i ≡ Some r → NoDearer m k (r .cost) → Eased m c (with-row-cost c i k)
+  pub line-repriced : (c : Content) (i k : ℕ) (l : Line) → Sound m c → nth (c .lines) i ≡ Some l → NoDearer m k (l .cost) → Eased m c (with-line-cost c i k)

@@ -16,7 +16,8 @@ use Rattle.board.specs.Arrivals.{arrival-on}
 use Rattle.board.specs.Packing.{packed}
 use Rattle.board.specs.Checks.{check-answer}
 use Rattle.board.specs.Computing.{settled-log, found}
-use Rattle.board.specs.Ease.{Eased}
+use Rattle.board.specs.Calls.{Calls-keep}
+use Rattle.board.specs.Ease.{Eased, Calls-ease}
 
 -- the log has a record from s to q that is no dearer than k
 pub record Recorded-within (m : Meaning) (log : List Record) (s q : Place) (k : ℕ) : Type 0 where
@@ -93,3 +94,14 @@ Settling-computed = (m : Meaning) (c : Content) → Lawful m → Sound m c → C
 -- a list of moves is a complete reading at one cost at most
 abbrev pub One-cost : Type 0
 One-cost = (m : Meaning) (c : Content) (vs : List Move) (k n : ℕ) → Complete m c vs k → Complete m c vs n → k ≡ n
+
+-- All that the board promises over contents, for every meaning.
+pub record Board-promises : Type 0 where
+  -- the calls on a draft keep a content sound
+  pub kept : (m : Meaning) → Calls-keep m
+  -- adding, and repricing no dearer, eases a content
+  pub eased : (m : Meaning) → Lawful m → Calls-ease m
+  -- a sound content can be settled, and what then holds
+  pub settling : Settling-promises
+  -- the functions find what the relations define
+  pub computed : Settling-computed

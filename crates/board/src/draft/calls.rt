@@ -5,6 +5,7 @@ ghost use Rattle.board.specs.Refusals.{answer};
 ghost use Rattle.board.specs.Content.{new, Sound};
 ghost use Rattle.board.specs.Calls.{size-fault, size-after, row-fault, row-after, line-fault, line-after, reprice-fault, reprice-row-after, reprice-line-after, without-lines};
 ghost use Rattle.board.specs.Held.{draft-content};
+ghost use Rattle.board.specs.Promises.{Board-promises};
 use crate::draft::Draft;
 use crate::refusal::Refusal;
 use crate::row::Line;
@@ -18,6 +19,7 @@ impl<K: Kind> Draft<K> {
     pub fn new() -> Draft<K>
         ensures content { λ r. ⌜ draft-content r ≡ new ⌝ }
         ensures sound { λ r. ⌜ Sound meaning (draft-content r) ⌝ }
+        ensures promises { λ _. ⌜ Board-promises ⌝ }
     {
         Draft {
             tables: Tables::new(),

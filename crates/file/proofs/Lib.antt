@@ -1,0 +1,14 @@
+pub mod Cuts
+pub mod Called
+pub mod Steps
+pub mod Turns
+pub mod Bytes
+pub mod Words
+pub mod Sequences
+pub mod Limits
+pub mod Heads
+pub mod Tails
+pub mod Exactly
+pub mod Sounding
+pub mod Promising
+pub mod Following

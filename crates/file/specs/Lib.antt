@@ -1,0 +1,14 @@
+pub mod Refusals
+pub mod Trust
+pub mod Fields
+pub mod Parts
+pub mod Sections
+pub mod Records
+pub mod Load
+pub mod Layout
+pub mod Examples
+pub mod States
+pub mod Told
+pub mod Easing
+pub mod Promise
+pub mod Histories
