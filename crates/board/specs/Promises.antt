@@ -37,6 +37,10 @@ pub record Least-cost (m : Meaning) (c : Content) (s q : Place) (k : ℕ) : Type
 abbrev pub Recorded-is-checked : Meaning → Content → List Record → Type 0
 Recorded-is-checked m c log = (k : ℕ) (vs : List Move) → Recorded-reading m c log k vs → check-answer m c (map packed vs) ≡ Ok k
 
+-- no complete reading costs less than the worst
+abbrev pub None-below : Meaning → Content → Type 0
+None-below m c = (vs : List Move) (x : ℕ) → Complete m c vs x → NoDearer m (m .worst) x
+
 -- What holds of a settled log.
 pub record Cheapest (m : Meaning) (c : Content) (log : List Record) : Type 0 where
   -- each record spelled out is a balanced path between its places at the recorded cost
@@ -50,7 +54,7 @@ pub record Cheapest (m : Meaning) (c : Content) (log : List Record) : Type 0 whe
   -- every complete reading costs at least as much as the recorded one
   pub cheapest : (k n : ℕ) (vs ws : List Move) → Recorded-reading m c log k vs → Complete m c ws n → NoDearer m k n
   -- there is no recorded reading exactly if every complete reading costs no less than the worst
-  pub none : No-reading m c log ↔ ((ws : List Move) (n : ℕ) → Complete m c ws n → NoDearer m (m .worst) n)
+  pub none : No-reading m c log ↔ None-below m c
   -- a content with only more rows or lines, or cheaper ones, answers no dearer
   pub eased : (c′ : Content) (log′ : List Record) (k k′ : ℕ) → Sound m c′ → Eased m c c′ → Settled m c′ log′ → Answer m c log k → Answer m c′ log′ k′ → NoDearer m k′ k
   -- any settled log of the content is this one
@@ -74,7 +78,7 @@ pub record Cheapest (m : Meaning) (c : Content) (log : List Record) : Type 0 whe
 abbrev pub Settling-promises : Type 0
 Settling-promises = (m : Meaning) (c : Content) → Lawful m → Sound m c → ((log : List Record) × Settled m c log) × ((log : List Record) → Settled m c log → Cheapest m c log)
 
--- A move leads where the function `arrival` says, on every content.
+-- A move leads where the function `arrival-on` says, on every content.
 abbrev pub Moves-computed : Type 0
 Moves-computed = (m : Meaning) (c : Content) (v : Move) (p : Place) (h : Arrival) → Transition m c v p (h .to) (h .cost) (h .effect) ↔ (arrival-on m c v p ≡ Some h)
 

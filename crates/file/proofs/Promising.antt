@@ -24,8 +24,8 @@ use Rattle.board.specs.Packing.{packed}
 use Rattle.board.specs.Paths.{Complete}
 use Rattle.board.specs.Settling.{Record, Settled, Recorded-reading, No-reading, Answer}
 use Rattle.board.specs.Computing.{Found, found, settled-log}
-use Rattle.board.specs.Questions.{cost-told as told-of, path-told as path-of, path-written, fits, None-below}
-use Rattle.board.specs.Promises.{Board-promises, Cheapest, Computed}
+use Rattle.board.specs.Questions.{cost-told as told-of, path-told as path-of, path-written, fits}
+use Rattle.board.specs.Promises.{Board-promises, Cheapest, Computed, None-below}
 use Rattle.file.specs.declared.call.Call.{Call}
 use Rattle.file.specs.declared.call.Call.the-variants as call
 use Rattle.file.specs.States.{State, draft, settled, content, fault, edited, on-draft, stepped, state-from, state-after}

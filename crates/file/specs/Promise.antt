@@ -16,7 +16,8 @@ use Rattle.board.specs.Packing.{packed}
 use Rattle.board.specs.Checks.{check-answer}
 use Rattle.board.specs.Settling.{Recorded-reading}
 use Rattle.board.specs.Computing.{settled-log}
-use Rattle.board.specs.Questions.{cost-answer, path-answer, path-after, None-below}
+use Rattle.board.specs.Promises.{None-below}
+use Rattle.board.specs.Questions.{cost-answer, path-answer, path-after}
 use Rattle.file.specs.declared.call.Call.{Call}
 use Rattle.file.specs.States.{settled, state-after}
 use Rattle.file.specs.Easing.{All-ease}
