@@ -20,7 +20,6 @@ use Rattle.board.specs.Packing.{packed}
 use Rattle.board.specs.Checks.{Shallow-from}
 use Rattle.board.specs.Settling.{In, Record, start-record, diagonal, Candidate, step, call, Rounds, begin, round, Settled, Reading-by}
 use Rattle.board.specs.Computing.{pair-count}
-use Rattle.board.specs.Depths.{Depth-within, Rounds-bound-depth}
 use Rattle.board.specs.Promises.{Recorded-is-checked}
 use Rattle.board.proofs.Elements.{no-some}
 use Rattle.board.proofs.Membership.{some-eq}
@@ -33,6 +32,10 @@ use Rattle.board.proofs.Existence.{board-pairs, length-board-pairs, open-in, o
 use Rattle.board.proofs.Turning.{path-small}
 use Rattle.board.proofs.Packs.{all-unpacked}
 use Rattle.board.proofs.Accepting.{accepts}
+
+-- never more than n brackets are open above those that were open before
+abbrev Depth-within : ℕ → List Effect → Type 0
+Depth-within n es = (front rest : List Effect) (st now-open : List ℕ) → es ≡ front ++ rest → stack front st ≡ Some now-open → length now-open ≤ n + length st
 
 -- a front of two lists one after the other is a front of the first, or the first and a front of the second
 front-of : (a b front rest : List Effect) → a ++ b ≡ front ++ rest → ((more : List Effect) × (a ≡ front ++ more)) ⊎ ((more : List Effect) × (front ≡ a ++ more) × (b ≡ more ++ rest))
@@ -103,11 +106,6 @@ same-effects (go {e = d} g p) (go {e = d′} g′ p′) =
 abbrev Moves-within : Meaning → Content → ℕ → Record → Type 0
 Moves-within m c n a = (p q : Place) (ks : List ℕ) (es : List Effect) → Path m c (a .moves) p q ks es → Depth-within n es
 
--- a log holds at least as many records as there were rounds
-pub rounds-length : {m : Meaning} {c : Content} {n : ℕ} {log : List Record} → Rounds m c n log → n ≤ length log
-rounds-length begin = omega arith
-rounds-length (round s r) = let h = rounds-length s in omega arith
-
 module _ {m : Meaning} {c : Content} (laws : Lawful m) (sound : Sound m c) where
   start-within : (s : Place) → Moves-within m c 0 (start-record m s)
   start-within s p q ks es path = subst (Depth-within 0) (same-effects (stop {p = p}) path) (within-none 0)
@@ -124,13 +122,11 @@ module _ {m : Meaning} {c : Content} (laws : Lawful m) (sound : Sound m c) where
       let db = within-both n (sb .effects) (Closes x ∷ []) (sb .balanced) (all b j _ _ _ _ (sb .path)) (within-close n x [] (within-none n)) in
       subst (Depth-within (suc n)) (same-effects (path-++ (sa .path) (go g (path-++ (sb .path) (go h stop)))) path) (within-both (suc n) (sa .effects) (Opens x ∷ (sb .effects ++ (Closes x ∷ []))) (sa .balanced) da (within-open n x (sb .effects ++ (Closes x ∷ [])) db))
 
+  -- each record that n rounds have settled never has more than n brackets open
   moves-within : {n : ℕ} {log : List Record} → Rounds m c n log → (a : Record) → In a log → Moves-within m c n a
   moves-within begin a i = let e = started m c a i in subst (Moves-within m c 0) (sym (e .1)) (start-within (e .0))
   moves-within {n} (round s r) a (inl e) = subst (Moves-within m c n) (sym e) (candidate-within s (moves-within s) (r .candidate))
   moves-within {n} (round {n = k} s r) a (inr i) = λ p q ks es path. within-more n k es (omega arith) (moves-within s a i p q ks es path)
-
-  pub rounds-bound-depth : Rounds-bound-depth m c
-  rounds-bound-depth n log s a i = let b = spelled laws sound s a i in record { path = b; depth = moves-within s a i _ _ _ _ (b .path) }
 
   -- a reading of a log of at most 4,096 rounds never has more than 4,096 brackets open
   reading-shallow : {n : ℕ} {log : List Record} {i k : ℕ} {vs : List Move} → Rounds m c n log → n ≤ 4096 → Reading-by m c log i k vs → (h : Complete m c vs k) → Shallow-from [] (h .body)

@@ -11,7 +11,7 @@ use Rattle.board.specs.declared.row.Row.{Row}
 use Rattle.board.specs.declared.moves.Move.{Move}
 use Rattle.board.specs.declared.moves.Effect.{Effect}
 use Rattle.board.specs.Content.{Content, Sound}
-use Rattle.board.specs.Moves.{Place, moment, effect-of, effect, Untimed, Timed, Transition}
+use Rattle.board.specs.Moves.{Place, moment, effect-of, effect, End-moment, Untimed, Timed, Transition}
 use Rattle.board.specs.Paths.{Path, stop, go, Complete}
 use Rattle.board.specs.Settling.{Record, Settled, Answer}
 use Rattle.board.specs.Ease.{Eased, Eased-row}
@@ -21,10 +21,10 @@ use Rattle.board.proofs.Readings.{complete-cost, answer-least, answer-cost, re
 
 module _ {m : Meaning} {c c′ : Content} (laws : Lawful m) (sound : Sound m c) (sound′ : Sound m c′) (eased : Eased m c c′) where
   untimed′ : {r r′ : Row} {w : Option ℕ} {t u k : ℕ} → Eased-row m r r′ → Untimed c r w t u k → Untimed c′ r′ w t u (r′ .cost)
-  untimed′ e s = record {
+  untimed′ {t = t} e s = record {
     alone = s .alone;
     no-event = λ h. e .label-same ∙ s .no-event (sym (e .kind-same) ∙ h);
-    at-end = λ h. s .at-end (sym (e .kind-same) ∙ h) ∙ sym (eased .moments-same);
+    at-end = λ h. subst (λ (n : ℕ). End-moment n t) (sym (eased .moments-same)) (s .at-end (sym (e .kind-same) ∙ h));
     there = omega (arith, eased .moments-same);
     keeps = s .keeps;
     price = refl;

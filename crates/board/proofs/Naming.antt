@@ -60,13 +60,13 @@ timely-true : (k : RowKind) (n t : ℕ) → timely k n t ≡ true → k ≡ End 
 timely-true Plain n t h e = absurd (let z : _≡_ {A = ℕ} 0 1 = cc in omega arith)
 timely-true Open n t h e = absurd (let z : _≡_ {A = ℕ} 0 1 = cc in omega arith)
 timely-true Close n t h e = absurd (let z : _≡_ {A = ℕ} 0 1 = cc in omega arith)
-timely-true End n t h e = eqb-true _ _ h
+timely-true End n t h e = h
 
 timely-from : (k : RowKind) (n t : ℕ) → (k ≡ End → End-moment n t) → timely k n t ≡ true
 timely-from Plain n t f = refl
 timely-from Open n t f = refl
 timely-from Close n t f = refl
-timely-from End n t f = eq-eqb _ _ (f refl)
+timely-from End n t f = f refl
 
 module _ (m : Meaning) (c : Content) (v : Move) (p : Place) where
   abbrev Going : Named → Type 0

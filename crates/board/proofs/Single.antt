@@ -4,7 +4,7 @@ use mathlib.Core.List.{List, [], _∷_, _++_}
 use mathlib.Core.Logic.{_⊎_, inl, inr, ⊎-elim}
 use Prim.Native.Nat.{ℕ, _≤_}
 use native.Mathlib.Omega.{arith}
-use Rattle.std.proofs.shelf.Tests.{both-ways}
+use Rattle.std.proofs.shelf.Tests.{both-ways, eqb-true}
 use Rattle.costs.specs.Meaning.{Meaning, Lawful, Cost, NoDearer}
 use Rattle.costs.specs.Lists.{joined}
 use Rattle.board.specs.declared.row.Row.{Row}
@@ -33,7 +33,7 @@ module _ {m : Meaning} {c : Content} where
   end-place : {i k k′ : ℕ} {p q p′ q′ : Place} → Transition m c (bare i) p q k Ends → Transition m c (bare i) p′ q′ k′ Ends → p ≡ p′
   end-place {p = p} {p′ = p′} g h =
       let same : g .by ≡ h .by = some-eq _ _ _ (g .found) (h .found) in
-      place-eq p p′ (g .leaves ∙ ap (λ (r : Row). r .from) same ∙ sym (h .leaves)) (omega (arith, end-moment g, end-moment h))
+      place-eq p p′ (g .leaves ∙ ap (λ (r : Row). r .from) same ∙ sym (h .leaves)) (omega (arith, eqb-true _ _ (end-moment g), eqb-true _ _ (end-moment h)))
 
   -- an end row has one reading
   same-moves : {log : List Record} {i k k′ : ℕ} {vs ws : List Move} → Settled m c log → Reading-by m c log i k vs → Reading-by m c log i k′ ws → vs ≡ ws

@@ -4,7 +4,6 @@ use mathlib.Core.List.{List, [], _∷_, _++_}
 use Prim.Native.Nat.{ℕ, zero, suc, _*_}
 use lib.Dec.{eqb, ltb}
 use lib.ListN.{length}
-use Rattle.std.specs.Runs.{nth}
 use Rattle.std.specs.declared.option.Option.{Option}
 use Rattle.std.specs.declared.option.Option.the-variants.{Some, None}
 use Rattle.costs.specs.Meaning.{Meaning}
@@ -14,7 +13,7 @@ use Rattle.board.specs.declared.moves.Effect.{Effect}
 use Rattle.board.specs.declared.moves.Effect.the-variants.{Quiet, Opens, Closes, Ends}
 use Rattle.board.specs.declared.moves.Arrival.{Arrival}
 use Rattle.board.specs.Content.{Content}
-use Rattle.board.specs.Moves.{Place, mode, moment, place-number, is-end}
+use Rattle.board.specs.Moves.{Place, mode, moment, place-number, is-end, move-row}
 use Rattle.board.specs.Arrivals.{arrival-on}
 use Rattle.board.specs.Settling.{Record, bare, step-record, call-record, diagonal, key}
 
@@ -199,7 +198,7 @@ mode-left (Some r) = r .from
 -- the best of the readings by the rows below n
 unfoldable pub best-rows : Meaning → Content → List Record → ℕ → Option Found
 best-rows m c log zero = None
-best-rows m c log (suc n) = best-moments m c log n (mode-left (nth (c .rows) n)) (c .moments) (best-rows m c log n)
+best-rows m c log (suc n) = best-moments m c log n (mode-left (move-row c n)) (c .moments) (best-rows m c log n)
 
 -- the recorded reading of a log, if it has one
 unfoldable pub found : Meaning → Content → List Record → Option Found

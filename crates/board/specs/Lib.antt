@@ -25,4 +25,3 @@ pub mod Invariants
 pub mod Questions
 pub mod Entries
 pub mod Boards
-pub mod Depths

@@ -57,16 +57,20 @@ is-end (Closes n) = false
 is-end Ends = true
 
 -- Which rows are moves: each that the content holds, by its number.
+abbrev pub move-row : Content → ℕ → Option Row
+move-row c i = nth (c .rows) i
+
+-- the move of number i is by the row r
 abbrev pub Is-move : Content → ℕ → Row → Type 0
-Is-move c i r = nth (c .rows) i ≡ Some r
+Is-move c i r = move-row c i ≡ Some r
 
 -- At which moments an end row may stand: the last one only.
-abbrev pub End-moment : ℕ → ℕ → Type 0
-End-moment moments t = suc t ≡ moments
-
--- the test of it
 abbrev pub end-moment? : ℕ → ℕ → Bool
 end-moment? moments t = eqb (suc t) moments
+
+-- an end row may stand at the moment t
+abbrev pub End-moment : ℕ → ℕ → Type 0
+End-moment moments t = end-moment? moments t ≡ true
 
 -- Of moments t before and u after, at cost k: a row without an event takes no line and keeps the moment.
 pub record Untimed (c : Content) (r : Row) (line : Option ℕ) (t u k : ℕ) : Type 0 where
