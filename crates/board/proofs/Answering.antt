@@ -22,7 +22,7 @@ use Rattle.board.specs.Moves.{Place, On, place-number}
 use Rattle.board.specs.Paths.{Balanced-path}
 use Rattle.board.specs.Packing.{packed}
 use Rattle.board.specs.Settling.{Record, Settled, Recorded-reading}
-use Rattle.board.specs.Computing.{record-between, Found, found}
+use Rattle.board.specs.Computing.{record-between, Reading-found, found}
 use Rattle.board.specs.Promises.{Cheapest}
 use Rattle.board.specs.Questions.{recorded-cost, between-answer, cost-told, cost-answer, fits, path-told, path-written, path-answer, path-after, Cost-means, Path-means, Pair, Between-means}
 use Rattle.board.proofs.Membership.{none-some}
@@ -39,11 +39,11 @@ module _ {m : Meaning} {c : Content} (laws : Lawful m) (sound : Sound m c) {log 
   promised : Cheapest m c log
   promised = settling-promises m c laws sound .1 log d
 
-  recorded : (f : Found) → found m c log ≡ Some f → Recorded-reading m c log (f .cost) (f .moves)
+  recorded : (f : Reading-found) → found m c log ≡ Some f → Recorded-reading m c log (f .cost) (f .moves)
   recorded f e = found-recorded laws sound (d .reached) f e
 
   -- cost
-  cost-by : (o : Option Found) → found m c log ≡ o → Cost-means m c log (cost-told o)
+  cost-by : (o : Option Reading-found) → found m c log ≡ o → Cost-means m c log (cost-told o)
   cost-by None e = (refl, promised .none .0 (found-none laws sound (d .reached) e))
   cost-by (Some f) e =
       let r = recorded f e in
@@ -60,10 +60,10 @@ module _ {m : Meaning} {c : Content} (laws : Lawful m) (sound : Sound m c) {log 
   cost-means = cost-by _ refl
 
   -- path
-  longer : (f : Found) (buffer : List ℕ) → fits f buffer ≡ false → (length buffer < length (f .moves)) ⊎ (65535 < length (f .moves))
+  longer : (f : Reading-found) (buffer : List ℕ) → fits f buffer ≡ false → (length buffer < length (f .moves)) ⊎ (65535 < length (f .moves))
   longer f buffer e = ⊎-elim (λ h. inl (leb-false _ _ h)) (λ h. inr (leb-false _ _ h)) (not-both _ _ e)
 
-  path-fits : (f : Found) (buffer : List ℕ) → found m c log ≡ Some f → (t : Bool) → fits f buffer ≡ t → Path-means m c log buffer (cond t (Ok (length (f .moves))) (Err TooLong)) (cond t (map packed (f .moves) ++ drop (length (f .moves)) buffer) buffer)
+  path-fits : (f : Reading-found) (buffer : List ℕ) → found m c log ≡ Some f → (t : Bool) → fits f buffer ≡ t → Path-means m c log buffer (cond t (Ok (length (f .moves))) (Err TooLong)) (cond t (map packed (f .moves) ++ drop (length (f .moves)) buffer) buffer)
   path-fits f buffer e true h =
       let r = recorded f e in
       let z = and-parts _ _ h in
@@ -81,7 +81,7 @@ module _ {m : Meaning} {c : Content} (laws : Lawful m) (sound : Sound m c) {log 
       }
   path-fits f buffer e false h = (inr (refl, record { cost = f .cost; reading = f .moves; recorded = recorded f e; longer = longer f buffer h }), refl)
 
-  path-by : (o : Option Found) (buffer : List ℕ) → found m c log ≡ o → Path-means m c log buffer (path-told o buffer) (path-written o buffer)
+  path-by : (o : Option Reading-found) (buffer : List ℕ) → found m c log ≡ o → Path-means m c log buffer (path-told o buffer) (path-written o buffer)
   path-by None buffer e = (inl (refl, promised .none .0 (found-none laws sound (d .reached) e)), refl)
   path-by (Some f) buffer e = path-fits f buffer e (fits f buffer) refl
 

@@ -21,7 +21,7 @@ use Rattle.board.specs.Content.{Content, Sound}
 use Rattle.board.specs.Moves.{Place, mode, moment, origin, place-number, On, Transition, is-end}
 use Rattle.board.specs.Settling.{Cheaper, In, bare, Record, Rounds, Settled, Reading-by, Recorded-reading, No-reading, Answer}
 use Rattle.board.specs.Arrivals.{arrival-on}
-use Rattle.board.specs.Computing.{joins?, record-between, Found, ending, reading-at, better, best-moments, mode-left, best-rows, found}
+use Rattle.board.specs.Computing.{joins?, record-between, Reading-found, ending, reading-at, better, best-moments, mode-left, best-rows, found}
 use Rattle.board.specs.Promises.{Computed}
 use Rattle.board.proofs.Laws.{cheaper-no-dearer, no-dearer-eq, cheaper-up, cheaper-or}
 use Rattle.board.proofs.Elements.{no-some, nth-below}
@@ -64,7 +64,7 @@ is-ends (Opens n) h = absurd (both-ways _ refl h)
 is-ends (Closes n) h = absurd (both-ways _ refl h)
 is-ends Ends h = refl
 
-abbrev the-found : ℕ → ℕ → List Move → Found
+abbrev the-found : ℕ → ℕ → List Move → Reading-found
 the-found i k vs = record { row = i; cost = k; moves = vs }
 
 module _ {m : Meaning} {c : Content} (laws : Lawful m) (sound : Sound m c) {rounds : ℕ} {log : List Record} (reached : Rounds m c rounds log) where
@@ -98,10 +98,10 @@ module _ {m : Meaning} {c : Content} (laws : Lawful m) (sound : Sound m c) {roun
   origin-zero = omega arith
 
   -- what is read at a place is a reading by that row
-  abbrev Reads : Found → Type 0
+  abbrev Reads : Reading-found → Type 0
   Reads x = Reading-by m c log (x .row) (x .cost) (x .moves)
 
-  ending-reads : (i : ℕ) (p : Place) (x : Found) (o : Option Arrival) (b : Option Record) → On c p → arrival-on m c (bare i) p ≡ o → record-between c log 0 (place-number c p) ≡ b → ending m i o b ≡ Some x → Reads x × (x .row ≡ i)
+  ending-reads : (i : ℕ) (p : Place) (x : Reading-found) (o : Option Arrival) (b : Option Record) → On c p → arrival-on m c (bare i) p ≡ o → record-between c log 0 (place-number c p) ≡ b → ending m i o b ≡ Some x → Reads x × (x .row ≡ i)
   ending-reads i p x None b on e f g = absurd (no-some x g)
   ending-reads i p x (Some h) None on e f g = absurd (no-some x g)
   ending-reads i p x (Some h) (Some a) on e f g = by (is-end (h .effect)) refl g
@@ -114,9 +114,9 @@ module _ {m : Meaning} {c : Content} (laws : Lawful m) (sound : Sound m c) {roun
           let stays : Transition m c (bare i) p p (h .cost) Ends = subst (λ q. Transition m c (bare i) p q (h .cost) Ends) (sym (end-alone laws sound go .1)) go in
           let over : Transition m c (bare i) (a .to) (a .to) (h .cost) Ends = subst (λ q. Transition m c (bare i) q q (h .cost) Ends) (sym (w .2)) stays in
           let is : the-found i (m .join (a .cost) (h .cost)) (a .moves ++ (bare i ∷ [])) ≡ x = cc in
-          subst (λ (y : Found). Reads y × (y .row ≡ i)) is (record { held = a; logged = w .0; starts-0 = w .1; price = h .cost; over = over; cost-is = refl; moves-are = refl }, refl)
+          subst (λ (y : Reading-found). Reads y × (y .row ≡ i)) is (record { held = a; logged = w .0; starts-0 = w .1; price = h .cost; over = over; cost-is = refl; moves-are = refl }, refl)
 
-  read-some : (i : ℕ) (p : Place) (x : Found) → On c p → reading-at m c log i p ≡ Some x → Reads x × (x .row ≡ i)
+  read-some : (i : ℕ) (p : Place) (x : Reading-found) → On c p → reading-at m c log i p ≡ Some x → Reads x × (x .row ≡ i)
   read-some i p x on e = ending-reads i p x _ _ on refl refl e
 
   -- every reading by a row is read at its place
@@ -134,18 +134,18 @@ module _ {m : Meaning} {c : Content} (laws : Lawful m) (sound : Sound m c) {roun
   Looked = ℕ → Place → Type 0
 
   -- nothing below the worst, or the best of those looked at
-  record Best (C : Looked) (f : Found) (n : ℕ) : Type 0 where
+  record Best (C : Looked) (f : Reading-found) (n : ℕ) : Type 0 where
     reads : Reads f
     below : Cheaper m (f .cost) (m .worst)
     last-in : f .row ≤ n
     least : (i k : ℕ) (vs : List Move) (r : Reading-by m c log i k vs) → C i (r .held .to) → Cheaper m (f .cost) k ⊎ ((f .cost ≡ k) × (f .row ≤ i))
 
-  abbrev Scanned : Looked → ℕ → Option Found → Type 0
+  abbrev Scanned : Looked → ℕ → Option Reading-found → Type 0
   Scanned C n None = (i k : ℕ) (vs : List Move) (r : Reading-by m c log i k vs) → C i (r .held .to) → NoDearer m (m .worst) k
   Scanned C n (Some f) = Best C f n
 
   -- those looked at may be told otherwise, and the row may rise
-  scanned-for : (C D : Looked) (n n′ : ℕ) (b : Option Found) → n ≤ n′ → ((i k : ℕ) (vs : List Move) (r : Reading-by m c log i k vs) → D i (r .held .to) → C i (r .held .to)) → Scanned C n b → Scanned D n′ b
+  scanned-for : (C D : Looked) (n n′ : ℕ) (b : Option Reading-found) → n ≤ n′ → ((i k : ℕ) (vs : List Move) (r : Reading-by m c log i k vs) → D i (r .held .to) → C i (r .held .to)) → Scanned C n b → Scanned D n′ b
   scanned-for C D n n′ None h g s = λ i k vs r d. s i k vs r (g i k vs r d)
   scanned-for C D n n′ (Some f) h g s = record { reads = s .reads; below = s .below; last-in = let l = s .last-in in omega arith; least = λ i k vs r d. s .least i k vs r (g i k vs r d) }
 
@@ -158,14 +158,14 @@ module _ {m : Meaning} {c : Content} (laws : Lawful m) (sound : Sound m c) {roun
     More i q = C i q ⊎ ((i ≡ n) × (q ≡ p))
 
     -- what is read there is what any reading there is
-    same-there : (o : Option Found) → reading-at m c log n p ≡ o → (i k : ℕ) (vs : List Move) (r : Reading-by m c log i k vs) → i ≡ n → r .held .to ≡ p → o ≡ Some (the-found i k vs)
+    same-there : (o : Option Reading-found) → reading-at m c log n p ≡ o → (i k : ℕ) (vs : List Move) (r : Reading-by m c log i k vs) → i ≡ n → r .held .to ≡ p → o ≡ Some (the-found i k vs)
     same-there o e i k vs r ei ep =
         sym e ∙ ap (λ z. reading-at m c log z p) (sym ei) ∙ ap (reading-at m c log i) (sym ep) ∙ read-all i k vs r
 
-    cost-there : (x : Found) → reading-at m c log n p ≡ Some x → (i k : ℕ) (vs : List Move) (r : Reading-by m c log i k vs) → i ≡ n → r .held .to ≡ p → x .cost ≡ k
-    cost-there x e i k vs r ei ep = let is = same-there (Some x) e i k vs r ei ep in let z : x ≡ the-found i k vs = cc in ap (λ (y : Found). y .cost) z
+    cost-there : (x : Reading-found) → reading-at m c log n p ≡ Some x → (i k : ℕ) (vs : List Move) (r : Reading-by m c log i k vs) → i ≡ n → r .held .to ≡ p → x .cost ≡ k
+    cost-there x e i k vs r ei ep = let is = same-there (Some x) e i k vs r ei ep in let z : x ≡ the-found i k vs = cc in ap (λ (y : Reading-found). y .cost) z
 
-    scan-more : (b o : Option Found) → reading-at m c log n p ≡ o → Scanned C n b → Scanned More n (better m b o)
+    scan-more : (b o : Option Reading-found) → reading-at m c log n p ≡ o → Scanned C n b → Scanned More n (better m b o)
     scan-more None None e s = λ i k vs r. ⊎-elim (s i k vs r) (λ d. absurd (none-some _ _ refl (same-there None e i k vs r (d .0) (d .1))))
     scan-more (Some f) None e s = record { reads = s .reads; below = s .below; last-in = s .last-in; least = λ i k vs r. ⊎-elim (s .least i k vs r) (λ d. absurd (none-some _ _ refl (same-there None e i k vs r (d .0) (d .1)))) }
     scan-more None (Some x) e s = by (m .no-dearer (m .worst) (x .cost)) refl
@@ -205,7 +205,7 @@ module _ {m : Meaning} {c : Content} (laws : Lawful m) (sound : Sound m c) {roun
             }
 
   -- the moments below t of one row
-  moments-scanned : (C : Looked) (n u t : ℕ) (b : Option Found) → u < c .modes → t ≤ c .moments → Scanned C n b → Scanned (λ i q. C i q ⊎ ((i ≡ n) × (mode q ≡ u) × (moment q < t))) n (best-moments m c log n u t b)
+  moments-scanned : (C : Looked) (n u t : ℕ) (b : Option Reading-found) → u < c .modes → t ≤ c .moments → Scanned C n b → Scanned (λ i q. C i q ⊎ ((i ≡ n) × (mode q ≡ u) × (moment q < t))) n (best-moments m c log n u t b)
   unfolding best-moments
   moments-scanned C n u zero b hu ht s = scanned-for C _ n n b (omega arith) (λ i k vs r. ⊎-elim (λ d. d) (λ d. absurd (let z = d .2 in omega arith))) s
   moments-scanned C n u (suc t) b hu ht s =
@@ -235,17 +235,17 @@ module _ {m : Meaning} {c : Content} (laws : Lawful m) (sound : Sound m c) {roun
   all-scanned : (i k : ℕ) (vs : List Move) (r : Reading-by m c log i k vs) → i < length (c .rows)
   all-scanned i k vs r = reading-place i k vs r .2
 
-  from-scan : (b : Option Found) → Scanned (λ i q. i < length (c .rows)) (length (c .rows)) b → (x : Found) → b ≡ Some x → Recorded-reading m c log (x .cost) (x .moves)
+  from-scan : (b : Option Reading-found) → Scanned (λ i q. i < length (c .rows)) (length (c .rows)) b → (x : Reading-found) → b ≡ Some x → Recorded-reading m c log (x .cost) (x .moves)
   from-scan None s x e = absurd (no-some x e)
   from-scan (Some f) s x e =
       let is : f ≡ x = cc in
-      subst (λ (y : Found). Recorded-reading m c log (y .cost) (y .moves)) is (record { last = f .row; reads = s .reads; below = s .below; least = λ i n ws r. s .least i n ws r (all-scanned i n ws r) })
+      subst (λ (y : Reading-found). Recorded-reading m c log (y .cost) (y .moves)) is (record { last = f .row; reads = s .reads; below = s .below; least = λ i n ws r. s .least i n ws r (all-scanned i n ws r) })
 
-  none-scan : (b : Option Found) → Scanned (λ i q. i < length (c .rows)) (length (c .rows)) b → b ≡ None → No-reading m c log
+  none-scan : (b : Option Reading-found) → Scanned (λ i q. i < length (c .rows)) (length (c .rows)) b → b ≡ None → No-reading m c log
   none-scan None s e = λ i n ws r. s i n ws r (all-scanned i n ws r)
   none-scan (Some f) s e = absurd (none-some _ f e refl)
 
-  pub found-recorded : (x : Found) → found m c log ≡ Some x → Recorded-reading m c log (x .cost) (x .moves)
+  pub found-recorded : (x : Reading-found) → found m c log ≡ Some x → Recorded-reading m c log (x .cost) (x .moves)
   unfolding found
   found-recorded x e = from-scan _ (rows-scanned (length (c .rows))) x e
 
@@ -257,7 +257,7 @@ module _ {m : Meaning} {c : Content} (laws : Lawful m) (sound : Sound m c) {roun
   pub answered : (k : ℕ) × Answer m c log k
   answered = either (found m c log) refl
     where
-      either : (o : Option Found) → found m c log ≡ o → (k : ℕ) × Answer m c log k
+      either : (o : Option Reading-found) → found m c log ≡ o → (k : ℕ) × Answer m c log k
       either None e = (m .worst, inr (found-none e, refl))
       either (Some x) e = (x .cost, inl (x .moves, found-recorded x e))
 
@@ -269,7 +269,7 @@ module _ {m : Meaning} {c : Content} (laws : Lawful m) (sound : Sound m c) where
   recorded-found : {log : List Record} {k : ℕ} {vs : List Move} → Settled m c log → Recorded-reading m c log k vs → (i : ℕ) × (found m c log ≡ Some (record { row = i; cost = k; moves = vs }))
   recorded-found {log} {k} {vs} d r = either (found m c log) refl
     where
-      either : (o : Option Found) → found m c log ≡ o → (i : ℕ) × (found m c log ≡ Some (record { row = i; cost = k; moves = vs }))
+      either : (o : Option Reading-found) → found m c log ≡ o → (i : ℕ) × (found m c log ≡ Some (record { row = i; cost = k; moves = vs }))
       either None e = absurd (not-both r (found-none laws sound (d .reached) e))
       either (Some x) e =
           let same = one-reading laws sound d (found-recorded laws sound (d .reached) x e) r in
@@ -279,7 +279,7 @@ module _ {m : Meaning} {c : Content} (laws : Lawful m) (sound : Sound m c) where
   none-found : {log : List Record} → Settled m c log → No-reading m c log → found m c log ≡ None
   none-found {log} d none = either (found m c log) refl
     where
-      either : (o : Option Found) → found m c log ≡ o → found m c log ≡ None
+      either : (o : Option Reading-found) → found m c log ≡ o → found m c log ≡ None
       either None e = e
       either (Some x) e = absurd (not-both (found-recorded laws sound (d .reached) x e) none)
 

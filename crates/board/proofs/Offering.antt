@@ -30,7 +30,7 @@ use Rattle.board.specs.Held.{held}
 use Rattle.board.specs.Logged.{pair-of, record-of}
 use Rattle.board.specs.Offered.{offered}
 use Rattle.board.specs.Grown.{Refers, Offers, Best-ok, Covered, Grown, Upto, Stepped, Called}
-use Rattle.board.specs.Logs.{records, numbered, Kept, Book, Ready, Ok, Grows, nth-record, Step-by, Call-by, Opened}
+use Rattle.board.specs.Logs.{records, numbered, Kept, Book, Ready, Best-kept, Grows, nth-record, Step-by, Call-by, Opened}
 use Rattle.board.proofs.Logging.{logged-length, settled-is, in-logged, logged-in}
 use Rattle.board.proofs.Growing.{grown-same, grown-for, offered-grown, pair-in}
 
@@ -51,18 +51,18 @@ module _ {m : Meaning} {t : Tables} {l : Log} (laws : Lawful m) (ready : Ready m
   pair-room s q on on′ = pair-in (held t) s q (ready .sound .few-places) on on′
 
   -- one record that is a candidate, and all that P says is that
-  one : {best best′ : List (Option Entry)} (r : Entry) {P : Record → Type 0} → Ok m t l best → Offers m (held t) (records l) r → ((y : Record) → P y → y ≡ record-of (records l) r) → best′ ≡ offered m best (pair-of (held t) (r .from) (r .to)) r → Grows m t l best best′ P
+  one : {best best′ : List (Option Entry)} (r : Entry) {P : Record → Type 0} → Best-kept m t l best → Offers m (held t) (records l) r → ((y : Record) → P y → y ≡ record-of (records l) r) → best′ ≡ offered m best (pair-of (held t) (r .from) (r .to)) r → Grows m t l best best′ P
   one {best} {best′} r {P} ok off is e = subst (λ (b : List (Option Entry)). Grows m t l best b P) (sym e) (grown-for (offered-grown laws (ready .sound) (ready .sound .few-places) all-priced all-based best _ r ok off refl) is)
 
 -- the step from the record i by v
 module _ {m : Meaning} {t : Tables} {l : Log} (laws : Lawful m) (ready : Ready m t l) (i : ℕ) (within : i < l .count) (v : Move) where
-  pub step-none : {best : List (Option Entry)} → Ok m t l best → arrival-on m (held t) v (numbered l i .to) ≡ None → Grows m t l best best (Step-by m t l i v)
+  pub step-none : {best : List (Option Entry)} → Best-kept m t l best → arrival-on m (held t) v (numbered l i .to) ≡ None → Grows m t l best best (Step-by m t l i v)
   step-none ok e = grown-same ok (λ y s. none-some _ _ e (transition-arrival m (held t) v (numbered l i .to) (s .q) (s .k) Quiet (s .goes)))
 
-  pub step-loud : {best : List (Option Entry)} (h : Arrival) → Ok m t l best → arrival-on m (held t) v (numbered l i .to) ≡ Some h → (h .effect ≡ Quiet → ⊥) → Grows m t l best best (Step-by m t l i v)
+  pub step-loud : {best : List (Option Entry)} (h : Arrival) → Best-kept m t l best → arrival-on m (held t) v (numbered l i .to) ≡ Some h → (h .effect ≡ Quiet → ⊥) → Grows m t l best best (Step-by m t l i v)
   step-loud h ok e loud = grown-same ok (λ y s. loud (ap (λ (x : Arrival). x .effect) (some-eq _ _ _ e (transition-arrival m (held t) v (numbered l i .to) (s .q) (s .k) Quiet (s .goes)))))
 
-  pub step-one : {best best′ : List (Option Entry)} (h : Arrival) (k p : ℕ) → Ok m t l best → arrival-on m (held t) v (numbered l i .to) ≡ Some h → h .effect ≡ Quiet → k ≡ m .join (numbered l i .cost) (h .cost) → p ≡ pair-of (held t) (numbered l i .from) (h .to) → best′ ≡ offered m best p (record { from = numbered l i .from; to = h .to; cost = k; source = Step i v }) → Grows m t l best best′ (Step-by m t l i v)
+  pub step-one : {best best′ : List (Option Entry)} (h : Arrival) (k p : ℕ) → Best-kept m t l best → arrival-on m (held t) v (numbered l i .to) ≡ Some h → h .effect ≡ Quiet → k ≡ m .join (numbered l i .cost) (h .cost) → p ≡ pair-of (held t) (numbered l i .from) (h .to) → best′ ≡ offered m best p (record { from = numbered l i .from; to = h .to; cost = k; source = Step i v }) → Grows m t l best best′ (Step-by m t l i v)
   step-one {best} {best′} h k p ok e quiet z at f = one laws ready (made k) ok off covers (f ∙ ap (λ (n : ℕ). offered m best n (made k)) at)
     where
       made : ℕ → Entry
@@ -93,7 +93,7 @@ module _ {m : Meaning} {t : Tables} {l : Log} (laws : Lawful m) (ready : Ready m
       let n = ready .book .kept (o .inside) (opened .inside-in) .price in
       subst (Cost m) (sym (opened .cost-is)) (laws .join-cost _ _ (laws .join-cost _ _ k (transition-cost laws (ready .sound) (opened .goes))) n)
 
-  pub call-none : {best : List (Option Entry)} → Ok m t l best → arrival-on m (held t) (bare w) (numbered l (o .inside) .to) ≡ None → Grows m t l best best (Call-by m t l (o .front) (o .inside) (o .row) w)
+  pub call-none : {best : List (Option Entry)} → Best-kept m t l best → arrival-on m (held t) (bare w) (numbered l (o .inside) .to) ≡ None → Grows m t l best best (Call-by m t l (o .front) (o .inside) (o .row) w)
   call-none ok e = grown-same ok (λ y s. none-some _ _ e (transition-arrival m (held t) (bare w) (numbered l (o .inside) .to) (s .q) (s .l) (Closes (s .n)) (s .closes)))
 
   closes-eq : (h : Arrival) → arrival-on m (held t) (bare w) (numbered l (o .inside) .to) ≡ Some h → (y : Record) (s : Call-by m t l (o .front) (o .inside) (o .row) w y) → h ≡ record { to = s .q; cost = s .l; effect = Closes (s .n) }
@@ -105,10 +105,10 @@ module _ {m : Meaning} {t : Tables} {l : Log} (laws : Lawful m) (ready : Ready m
   same-bracket : (x : ℕ) (f : Effect) → Opens (o .bracket) ≡ f → (n : ℕ) → f ≡ Opens n → o .bracket ≡ n
   same-bracket x f e n g = cc
 
-  pub call-loud : {best : List (Option Entry)} (h : Arrival) → Ok m t l best → arrival-on m (held t) (bare w) (numbered l (o .inside) .to) ≡ Some h → (h .effect ≡ Closes (o .bracket) → ⊥) → Grows m t l best best (Call-by m t l (o .front) (o .inside) (o .row) w)
+  pub call-loud : {best : List (Option Entry)} (h : Arrival) → Best-kept m t l best → arrival-on m (held t) (bare w) (numbered l (o .inside) .to) ≡ Some h → (h .effect ≡ Closes (o .bracket) → ⊥) → Grows m t l best best (Call-by m t l (o .front) (o .inside) (o .row) w)
   call-loud h ok e loud = grown-same ok (λ y s. loud (ap (λ (x : Arrival). x .effect) (closes-eq h e y s) ∙ ap Closes (sym (same-bracket 0 _ refl (s .n) (ap (λ (x : Arrival). x .effect) (opens-eq y s))))))
 
-  pub call-one : {best best′ : List (Option Entry)} (h : Arrival) (k p : ℕ) → Ok m t l best → arrival-on m (held t) (bare w) (numbered l (o .inside) .to) ≡ Some h → h .effect ≡ Closes (o .bracket) → k ≡ m .join (o .cost) (h .cost) → p ≡ pair-of (held t) (numbered l (o .front) .from) (h .to) → best′ ≡ offered m best p (record { from = numbered l (o .front) .from; to = h .to; cost = k; source = Call (o .front) (o .inside) (o .row) w (moment (numbered l (o .front) .to)) }) → Grows m t l best best′ (Call-by m t l (o .front) (o .inside) (o .row) w)
+  pub call-one : {best best′ : List (Option Entry)} (h : Arrival) (k p : ℕ) → Best-kept m t l best → arrival-on m (held t) (bare w) (numbered l (o .inside) .to) ≡ Some h → h .effect ≡ Closes (o .bracket) → k ≡ m .join (o .cost) (h .cost) → p ≡ pair-of (held t) (numbered l (o .front) .from) (h .to) → best′ ≡ offered m best p (record { from = numbered l (o .front) .from; to = h .to; cost = k; source = Call (o .front) (o .inside) (o .row) w (moment (numbered l (o .front) .to)) }) → Grows m t l best best′ (Call-by m t l (o .front) (o .inside) (o .row) w)
   call-one {best} {best′} h k p ok e shut z at f = one laws ready (made k) ok off covers (f ∙ ap (λ (n : ℕ). offered m best n (made k)) at)
     where
       made : ℕ → Entry

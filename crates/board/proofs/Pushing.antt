@@ -26,7 +26,7 @@ use Rattle.board.specs.declared.tables.Tables.{Tables}
 use Rattle.board.specs.Held.{held}
 use Rattle.board.specs.Logged.{pair-of, spelled, record-of, logged, blank}
 use Rattle.board.specs.Grown.{Refers, Offers, Best-ok, Covered, Grown, Stepped, Called}
-use Rattle.board.specs.Logs.{records, numbered, filled, Kept, Book, Ready, Ok, Grows, nth-record, Uses, Calls-with, Calls-from, Calls-around, pushed, State}
+use Rattle.board.specs.Logs.{records, numbered, filled, Kept, Book, Ready, Best-kept, Grows, nth-record, Uses, Calls-with, Calls-from, Calls-around, pushed, State}
 use Rattle.board.proofs.Logging.{logged-length, logged-in, in-logged, logged-push, logged-set, record-stays}
 use Rattle.board.proofs.Growing.{pair-in}
 use Rattle.board.proofs.Stepping.{move-is}
@@ -145,7 +145,7 @@ module _ {m : Meaning} {t : Tables} {l : Log} (ready : Ready m t l) (p : ℕ) (r
     };
   }
 
-  pub pushed-ok : {best : List (Option Entry)} → Ok m t l best → Ok m t (pushed l p r n) best
+  pub pushed-ok : {best : List (Option Entry)} → Best-kept m t l best → Best-kept m t (pushed l p r n) best
   pushed-ok {best} ok = subst (λ (e : List Record). Best-ok m (held t) e best) (sym pushed-records) (record { long = ok .long; offers = λ q x e. offers-stays (record-of (records l) r) x (ok .offers q x e); placed = ok .placed })
 
   -- where a record of the new log stands

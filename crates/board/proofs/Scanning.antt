@@ -20,7 +20,7 @@ use Rattle.board.specs.Held.{held}
 use Rattle.board.specs.Moves.{Place, is-end}
 use Rattle.board.specs.Settling.{Record, bare}
 use Rattle.board.specs.Arrivals.{arrival-on}
-use Rattle.board.specs.Computing.{Found, ending, reading-at, better, best-moments, mode-left, best-rows, found}
+use Rattle.board.specs.Computing.{Reading-found, ending, reading-at, better, best-moments, mode-left, best-rows, found}
 use Rattle.board.proofs.Elements.{nth-front, nth-below}
 use Rattle.board.proofs.Transitions.{arrival-transition}
 
@@ -39,11 +39,11 @@ row-listed m t i p h e =
     omega (arith, nth-below (held t .rows) i (g .by) (g .found), length-take (t .«row_count») (t .rows))
 
 -- no moments yet, and one more
-pub moments-none : (m : Meaning) (c : Content) (log : List Record) (i n : ℕ) (b : Option Found) → b ≡ best-moments m c log i n 0 b
+pub moments-none : (m : Meaning) (c : Content) (log : List Record) (i n : ℕ) (b : Option Reading-found) → b ≡ best-moments m c log i n 0 b
 unfolding best-moments
 moments-none m c log i n b = refl
 
-pub moments-more : (m : Meaning) (c : Content) (log : List Record) (i n t : ℕ) (b x y r : Option Found) → x ≡ best-moments m c log i n t b → y ≡ reading-at m c log i (n, t) → r ≡ better m x y → r ≡ best-moments m c log i n (t + 1) b
+pub moments-more : (m : Meaning) (c : Content) (log : List Record) (i n t : ℕ) (b x y r : Option Reading-found) → x ≡ best-moments m c log i n t b → y ≡ reading-at m c log i (n, t) → r ≡ better m x y → r ≡ best-moments m c log i n (t + 1) b
 unfolding best-moments
 moments-more m c log i n t b x y r e f g = rw add-one (g ∙ ap (λ z. better m z y) e ∙ ap (better m (best-moments m c log i n t b)) f)
 
@@ -52,14 +52,14 @@ pub rows-none : (m : Meaning) (c : Content) (log : List Record) → None ≡ bes
 unfolding best-rows
 rows-none m c log = refl
 
-pub rows-more : (m : Meaning) (t : Tables) (log : List Record) (i u : ℕ) (d : Row) (x : Option Found) → i < t .«row_count» → u ≤ t .moments → t .moments ≤ u → x ≡ best-moments m (held t) log i (getD (t .rows) i d .from) u (best-rows m (held t) log i) → x ≡ best-rows m (held t) log (i + 1)
+pub rows-more : (m : Meaning) (t : Tables) (log : List Record) (i u : ℕ) (d : Row) (x : Option Reading-found) → i < t .«row_count» → u ≤ t .moments → t .moments ≤ u → x ≡ best-moments m (held t) log i (getD (t .rows) i d .from) u (best-rows m (held t) log i) → x ≡ best-rows m (held t) log (i + 1)
 unfolding best-rows
 rows-more m t log i u d x h k l e =
     let all : u ≡ t .moments = omega arith in
     let row = nth-front (t .rows) (t .«row_count») i d h (omega (arith, t .room .0, t .long .0)) in
     rw add-one (e ∙ ap (λ z. best-moments m (held t) log i (getD (t .rows) i d .from) z (best-rows m (held t) log i)) all ∙ ap (λ o. best-moments m (held t) log i (mode-left o) (t .moments) (best-rows m (held t) log i)) (sym row))
 
-pub rows-all : (m : Meaning) (t : Tables) (log : List Record) (i : ℕ) (x : Option Found) → i ≤ t .«row_count» → t .«row_count» ≤ i → x ≡ best-rows m (held t) log i → x ≡ found m (held t) log
+pub rows-all : (m : Meaning) (t : Tables) (log : List Record) (i : ℕ) (x : Option Reading-found) → i ≤ t .«row_count» → t .«row_count» ≤ i → x ≡ best-rows m (held t) log i → x ≡ found m (held t) log
 unfolding found
 rows-all m t log i x h k e =
     let n : i ≡ length (held t .rows) = omega (arith, length-take (t .«row_count») (t .rows), t .room .0, t .long .0) in

@@ -19,15 +19,15 @@ use Rattle.board.specs.declared.refusal.Refusal.the-variants.{TooLong}
 use Rattle.board.specs.Packing.{packed}
 use Rattle.board.specs.Settling.{bare}
 use Rattle.board.specs.Logs.{nth-record}
-use Rattle.board.specs.Computing.{Found}
+use Rattle.board.specs.Computing.{Reading-found}
 use Rattle.board.specs.Boards.{reading-of}
 use Rattle.board.specs.Questions.{cost-told, fits, path-told, path-written}
 
-module _ (l : Log) (r : Reading) (o : Option Found) (is : reading-of l (Some r) ≡ o) (k : ℕ) (measured : k ≡ min (length (nth-record l (r .entry) .moves)) 65536) where
+module _ (l : Log) (r : Reading) (o : Option Reading-found) (is : reading-of l (Some r) ≡ o) (k : ℕ) (measured : k ≡ min (length (nth-record l (r .entry) .moves)) 65536) where
   moves : List Move
   moves = nth-record l (r .entry) .moves
 
-  the-found : Found
+  the-found : Reading-found
   the-found = record { row = r .row; cost = r .cost; moves = nth-record l (r .entry) .moves ++ (bare (r .row) ∷ []) }
 
   one-more : length (nth-record l (r .entry) .moves ++ (bare (r .row) ∷ [])) ≡ length (nth-record l (r .entry) .moves) + 1

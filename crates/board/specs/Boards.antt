@@ -10,7 +10,7 @@ use Rattle.board.specs.Content.{Content}
 use Rattle.board.specs.Held.{held}
 use Rattle.board.specs.Settling.{Record, bare}
 use Rattle.board.specs.Logs.{records, nth-record}
-use Rattle.board.specs.Computing.{Found}
+use Rattle.board.specs.Computing.{Reading-found}
 
 abbrev pub settled-content : {K : Type 0} → Settled K → Content
 settled-content s = held (s .tables)
@@ -24,6 +24,6 @@ entry-record l None = None
 entry-record l (Some i) = Some (nth-record l i)
 
 -- the reading by an entry and an end row
-abbrev pub reading-of : Log → Option Reading → Option Found
+abbrev pub reading-of : Log → Option Reading → Option Reading-found
 reading-of l None = None
 reading-of l (Some r) = Some (record { row = r .row; cost = r .cost; moves = nth-record l (r .entry) .moves ++ (bare (r .row) ∷ []) })

@@ -162,31 +162,31 @@ unfoldable pub record-between : Content → List Record → ℕ → ℕ → Opti
 record-between c [] s q = None
 record-between c (a ∷ log) s q = cond (joins? c a s q) (Some a) (record-between c log s q)
 
--- a reading: its end row, its cost and its moves
-pub record Found : Type 0 where
+-- a reading that was found: its end row, its cost and its moves
+pub record Reading-found : Type 0 where
   pub row : ℕ
   pub cost : ℕ
   pub moves : List Move
 
 -- the record a and then the row i, which leads to h, if that is an end row
-abbrev pub ending : Meaning → ℕ → Option Arrival → Option Record → Option Found
+abbrev pub ending : Meaning → ℕ → Option Arrival → Option Record → Option Reading-found
 ending m i None a = None
 ending m i (Some h) None = None
 ending m i (Some h) (Some a) =
     cond (is-end (h .effect)) (Some (record { row = i; cost = m .join (a .cost) (h .cost); moves = a .moves ++ (bare i ∷ []) })) None
 
 -- the reading by the row i at the place p: the record from place 0 to p, and that row
-abbrev pub reading-at : Meaning → Content → List Record → ℕ → Place → Option Found
+abbrev pub reading-at : Meaning → Content → List Record → ℕ → Place → Option Reading-found
 reading-at m c log i p = ending m i (arrival-on m c (bare i) p) (record-between c log 0 (place-number c p))
 
 -- the better of two readings, of which the first comes first where they tie; one that is no cheaper than the worst is none
-abbrev pub better : Meaning → Option Found → Option Found → Option Found
+abbrev pub better : Meaning → Option Reading-found → Option Reading-found → Option Reading-found
 better m b None = b
 better m None (Some x) = cond (m .no-dearer (m .worst) (x .cost)) None (Some x)
 better m (Some b) (Some x) = cond (m .no-dearer (b .cost) (x .cost)) (Some b) (Some x)
 
 -- the best of b and the readings by the row i in the mode n at the moments below t
-unfoldable pub best-moments : Meaning → Content → List Record → ℕ → ℕ → ℕ → Option Found → Option Found
+unfoldable pub best-moments : Meaning → Content → List Record → ℕ → ℕ → ℕ → Option Reading-found → Option Reading-found
 best-moments m c log i n zero b = b
 best-moments m c log i n (suc t) b = better m (best-moments m c log i n t b) (reading-at m c log i (n, t))
 
@@ -196,10 +196,10 @@ mode-left None = 0
 mode-left (Some r) = r .from
 
 -- the best of the readings by the rows below n
-unfoldable pub best-rows : Meaning → Content → List Record → ℕ → Option Found
+unfoldable pub best-rows : Meaning → Content → List Record → ℕ → Option Reading-found
 best-rows m c log zero = None
 best-rows m c log (suc n) = best-moments m c log n (mode-left (move-row c n)) (c .moments) (best-rows m c log n)
 
 -- the recorded reading of a log, if it has one
-unfoldable pub found : Meaning → Content → List Record → Option Found
+unfoldable pub found : Meaning → Content → List Record → Option Reading-found
 found m c log = best-rows m c log (length (c .rows))

@@ -58,8 +58,8 @@ pub record Ready (m : Meaning) (t : Tables) (l : Log) : Type 0 where
   pub sound : Sound m (held t)
   pub book : Book m (held t) l
 
-abbrev pub Ok : Meaning → Tables → Log → List (Option Entry) → Type 0
-Ok m t l best = Best-ok m (held t) (records l) best
+abbrev pub Best-kept : Meaning → Tables → Log → List (Option Entry) → Type 0
+Best-kept m t l best = Best-ok m (held t) (records l) best
 
 abbrev pub Grows : Meaning → Tables → Log → List (Option Entry) → List (Option Entry) → (Record → Type 0) → Type 0
 Grows m t l best best′ P = Grown m (held t) (records l) best best′ P
@@ -126,7 +126,7 @@ pushed l p r n = record { entries = set (l .entries) (l .count) r; count = l .co
 -- the best candidate of each pair stands for every candidate
 pub record State (m : Meaning) (t : Tables) (l : Log) (best : List (Option Entry)) : Type 0 where
   pub ready : Ready m t l
-  pub ok : Ok m t l best
+  pub ok : Best-kept m t l best
   pub whole : (y : Record) → Candidate m (held t) (records l) y → Covered m (held t) best y
 
 -- the best candidate of a pair that is not settled

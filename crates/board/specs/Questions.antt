@@ -20,7 +20,7 @@ use Rattle.board.specs.Paths.{Balanced-path, Complete}
 use Rattle.board.specs.Packing.{packed}
 use Rattle.board.specs.Checks.{check-answer}
 use Rattle.board.specs.Settling.{Cheaper, Record, Recorded-reading}
-use Rattle.board.specs.Computing.{record-between, Found, found}
+use Rattle.board.specs.Computing.{record-between, Reading-found, found}
 use Rattle.board.specs.Promises.{Least-cost, None-below}
 
 -- the cost of a pair's record, if it has one
@@ -34,7 +34,7 @@ between-answer c log s q =
     cond (leb (c .modes * c .moments) s || leb (c .modes * c .moments) q) (Err PlaceOut) (recorded-cost (record-between c log s q))
 
 -- a reading's cost and number of moves, the number standing at 65,536 where it is more
-abbrev pub cost-told : Option Found → Result (ℕ × ℕ) Refusal
+abbrev pub cost-told : Option Reading-found → Result (ℕ × ℕ) Refusal
 cost-told None = Err NoReading
 cost-told (Some f) = Ok (f .cost, min (length (f .moves)) 65536)
 
@@ -43,16 +43,16 @@ abbrev pub cost-answer : Meaning → Content → List Record → Result (ℕ × 
 cost-answer m c log = cost-told (found m c log)
 
 -- whether the reading's moves are no more than the buffer holds, and no more than 65,535
-abbrev pub fits : Found → List ℕ → Bool
+abbrev pub fits : Reading-found → List ℕ → Bool
 fits f buffer = leb (length (f .moves)) (length buffer) && leb (length (f .moves)) 65535
 
 -- what path answers: how many moves the recorded reading has, if it fits
-abbrev pub path-told : Option Found → List ℕ → Result ℕ Refusal
+abbrev pub path-told : Option Reading-found → List ℕ → Result ℕ Refusal
 path-told None buffer = Err NoReading
 path-told (Some f) buffer = cond (fits f buffer) (Ok (length (f .moves))) (Err TooLong)
 
 -- what path makes of the buffer: the reading's moves in order, packed, and then what stood there
-abbrev pub path-written : Option Found → List ℕ → List ℕ
+abbrev pub path-written : Option Reading-found → List ℕ → List ℕ
 path-written None buffer = buffer
 path-written (Some f) buffer = cond (fits f buffer) (map packed (f .moves) ++ drop (length (f .moves)) buffer) buffer
 

@@ -23,7 +23,7 @@ use Rattle.board.specs.Ease.{Eased, Calls-ease}
 use Rattle.board.specs.Packing.{packed}
 use Rattle.board.specs.Paths.{Complete}
 use Rattle.board.specs.Settling.{Record, Settled, Recorded-reading, No-reading, Answer}
-use Rattle.board.specs.Computing.{Found, found, settled-log}
+use Rattle.board.specs.Computing.{Reading-found, found, settled-log}
 use Rattle.board.specs.Questions.{cost-told as told-of, path-told as path-of, path-written, fits}
 use Rattle.board.specs.Promises.{Board-promises, Cheapest, Computed, None-below}
 use Rattle.file.specs.declared.call.Call.{Call}
@@ -57,23 +57,23 @@ module _ {m : Meaning} (laws : Lawful m) (promises : Board-promises) where
     cheapest : Cheapest m c (settled-log m c)
     cheapest = promises .settling m c laws sound .1 (settled-log m c) (computed .settled)
 
-    recorded : (f : Found) → found m c (settled-log m c) ≡ Some f → Recorded-reading m c (settled-log m c) (f .cost) (f .moves)
+    recorded : (f : Reading-found) → found m c (settled-log m c) ≡ Some f → Recorded-reading m c (settled-log m c) (f .cost) (f .moves)
     recorded f e = computed .some (settled-log m c) (computed .settled) (f .cost) (f .moves) .1 (f .row, e)
 
     unread : found m c (settled-log m c) ≡ None → No-reading m c (settled-log m c)
     unread e = computed .none (settled-log m c) (computed .settled) .1 e
 
     -- path by whether the reading fits
-    writes : (f : Found) (buffer : List ℕ) (short few : Bool) → leb (length (f .moves)) (length buffer) ≡ short → leb (length (f .moves)) 65535 ≡ few → Writes (f .moves) buffer (cond (short && few) (Ok (length (f .moves))) (Err TooLong)) (cond (short && few) (map packed (f .moves) ++ drop (length (f .moves)) buffer) buffer)
+    writes : (f : Reading-found) (buffer : List ℕ) (short few : Bool) → leb (length (f .moves)) (length buffer) ≡ short → leb (length (f .moves)) 65535 ≡ few → Writes (f .moves) buffer (cond (short && few) (Ok (length (f .moves))) (Err TooLong)) (cond (short && few) (map packed (f .moves) ++ drop (length (f .moves)) buffer) buffer)
     writes f buffer true true h k = written (leb-true _ _ h) (leb-true _ _ k)
     writes f buffer true false h k = promise.declined (inr (leb-false _ _ k))
     writes f buffer false true h k = promise.declined (inl (leb-false _ _ h))
     writes f buffer false false h k = promise.declined (inl (leb-false _ _ h))
 
-    written-so : (f : Found) (buffer : List ℕ) → found m c (settled-log m c) ≡ Some f → Writes (f .moves) buffer (path-of (found m c (settled-log m c)) buffer) (path-written (found m c (settled-log m c)) buffer)
-    written-so f buffer e = subst (λ (o : Option Found). Writes (f .moves) buffer (path-of o buffer) (path-written o buffer)) (sym e) (writes f buffer _ _ refl refl)
+    written-so : (f : Reading-found) (buffer : List ℕ) → found m c (settled-log m c) ≡ Some f → Writes (f .moves) buffer (path-of (found m c (settled-log m c)) buffer) (path-written (found m c (settled-log m c)) buffer)
+    written-so f buffer e = subst (λ (o : Option Reading-found). Writes (f .moves) buffer (path-of o buffer) (path-written o buffer)) (sym e) (writes f buffer _ _ refl refl)
 
-    reading-of : (f : Found) → found m c (settled-log m c) ≡ Some f → Answered-reading m c (f .cost) (min (length (f .moves)) 65536)
+    reading-of : (f : Reading-found) → found m c (settled-log m c) ≡ Some f → Answered-reading m c (f .cost) (min (length (f .moves)) 65536)
     reading-of f e =
         let r = recorded f e in
         record {
@@ -86,11 +86,11 @@ module _ {m : Meaning} (laws : Lawful m) (promises : Board-promises) where
           cheapest = λ other x h. cheapest .cheapest (f .cost) x (f .moves) other r h;
         }
 
-    reading : (o : Option Found) → found m c (settled-log m c) ≡ o → (k n : ℕ) → told-of o ≡ Ok (k, n) → Answered-reading m c k n
+    reading : (o : Option Reading-found) → found m c (settled-log m c) ≡ o → (k n : ℕ) → told-of o ≡ Ok (k, n) → Answered-reading m c k n
     reading None e k n h = absurd (err-ok NoReading (k, n) h)
     reading (Some f) e k n h = subst (λ (p : ℕ × ℕ). Answered-reading m c (p .0) (p .1)) (ok-same _ _ h) (reading-of f e)
 
-    none-found : (o : Option Found) → found m c (settled-log m c) ≡ o → told-of o ≡ Err NoReading → found m c (settled-log m c) ≡ None
+    none-found : (o : Option Reading-found) → found m c (settled-log m c) ≡ o → told-of o ≡ Err NoReading → found m c (settled-log m c) ≡ None
     none-found None e h = e
     none-found (Some f) e h = absurd (err-ok NoReading _ (sym h))
 
@@ -100,7 +100,7 @@ module _ {m : Meaning} (laws : Lawful m) (promises : Board-promises) where
       λ h. ap told-of (computed .none (settled-log m c) (computed .settled) .0 (cheapest .none .1 h)),
     )
 
-    answer : (o : Option Found) → found m c (settled-log m c) ≡ o → Answer m c (settled-log m c) (cost-or-worst m (told-of o))
+    answer : (o : Option Reading-found) → found m c (settled-log m c) ≡ o → Answer m c (settled-log m c) (cost-or-worst m (told-of o))
     answer None e = inr (unread e, refl)
     answer (Some f) e = inl (f .moves, recorded f e)
 

@@ -10,7 +10,7 @@ use costs::Kind;
 
 impl Tables {
     // The cost of the complete reading that the moves are, or the first faulty move.
-    pub fn check<K: Kind>(&self, moves: &[u16]) -> Result<u32, Fault>
+    pub(crate) fn check<K: Kind>(&self, moves: &[u16]) -> Result<u32, Fault>
         ensures answer { λ r. ⌜ r ≡ check-answer meaning (held (now (self .entry))) (now (moves .entry)) ⌝ }
         ensures readings { λ r. ⌜ Accepts-readings meaning (held (now (self .entry))) (now (moves .entry)) r ⌝ }
     {

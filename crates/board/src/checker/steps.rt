@@ -29,7 +29,7 @@ impl Effect {
 
 impl Brackets {
     // None open.
-    pub fn new() -> Brackets
+    pub(crate) fn new() -> Brackets
         ensures { λ r. ⌜ unclosed-of r ≡ [] ⌝ }
     {
         Brackets {
@@ -39,7 +39,7 @@ impl Brackets {
     }
 
     // Opens or closes as the effect says; an end must find none open.
-    pub fn pass(&mut self, effect: Effect) -> Result<(), Refusal>
+    pub(crate) fn pass(&mut self, effect: Effect) -> Result<(), Refusal>
         ensures { λ r. ⌜ left r (unclosed-of (now (self .exit))) ≡ bracketed effect (unclosed-of (now (self .entry))) ⌝ }
     {
         match effect {
@@ -69,7 +69,7 @@ impl Brackets {
 
 impl Checker {
     // At place 0, with no bracket open and nothing joined.
-    pub fn new<K: Kind>() -> Checker
+    pub(crate) fn new<K: Kind>() -> Checker
         ensures { λ r. ⌜ progress-of r ≡ start meaning ⌝ }
     {
         Checker {
@@ -96,7 +96,7 @@ impl Checker {
     }
 
     // Goes on by one packed move.
-    pub fn take_move<K: Kind>(&mut self, tables: &Tables, number: u16) -> Result<(), Refusal>
+    pub(crate) fn take_move<K: Kind>(&mut self, tables: &Tables, number: u16) -> Result<(), Refusal>
         ensures { λ r. ⌜ left r (progress-of (now (self .exit))) ≡ take-move meaning (held (now (tables .entry))) (progress-of (now (self .entry))) number ⌝ }
     {
         let Some(v) = Move::unpack(number) else {
@@ -109,14 +109,14 @@ impl Checker {
     }
 
     // Whether an end row was met.
-    pub fn has_ended(&self) -> bool
+    pub(crate) fn has_ended(&self) -> bool
         ensures { λ r. ⌜ r ≡ progress-of (now (self .entry)) .ended ⌝ }
     {
         self.ended
     }
 
     // The costs so far joined.
-    pub fn total(&self) -> u32
+    pub(crate) fn total(&self) -> u32
         ensures { λ r. ⌜ r ≡ progress-of (now (self .entry)) .cost ⌝ }
     {
         self.cost

@@ -19,7 +19,7 @@ const BLANK: Entry = Entry {
 
 impl Log {
     // Nothing settled.
-    pub fn new() -> Log
+    pub(crate) fn new() -> Log
         ensures { λ r. ⌜ r ≡ empty ⌝ }
     {
         Log {
@@ -31,7 +31,7 @@ impl Log {
     }
 
     // The number of the entry of a pair, if it is settled.
-    pub fn at(&self, pair: usize) -> Option<usize>
+    pub(crate) fn at(&self, pair: usize) -> Option<usize>
         requires { ⌜ pair < 4096 ⌝ }
         ensures { λ r. ⌜ r ≡ getD (now (self .entry) .index) pair ANone ⌝ }
     {
@@ -42,7 +42,7 @@ impl Log {
     }
 
     // Settles a pair by an entry that spells out so many moves.
-    pub fn push(&mut self, pair: usize, entry: Entry, moves: u32)
+    pub(crate) fn push(&mut self, pair: usize, entry: Entry, moves: u32)
         requires pair { ⌜ pair < 4096 ⌝ }
         requires room { ⌜ now self .count < 4096 ⌝ }
         ensures { λ _. ⌜ now (self .exit) ≡ pushed (now (self .entry)) pair entry moves ⌝ }
@@ -55,7 +55,7 @@ impl Log {
     }
 
     // How many moves a source spells out, 65,536 where they are more.
-    pub fn length_of(&self, source: Source) -> u32
+    pub(crate) fn length_of(&self, source: Source) -> u32
         requires refers { ⌜ Refers (now self .count) source ⌝ }
         requires room { ⌜ now self .count ≤ 4096 ⌝ }
         requires right { ⌜ ((i : ℕ) → i < now self .count → getD (now self .lengths) i 0 ≡ min (length (record-at (now self .entries) i .moves)) 65536) ⌝ }

@@ -3,7 +3,7 @@ ghost use mathlib.Core.Path.{_≡_};
 ghost use Prim.Native.Nat.{_<_};
 ghost use Rattle.board.specs.Content.{Sound};
 ghost use Rattle.board.specs.Held.{held};
-ghost use Rattle.board.specs.Logs.{Ready, Ok, Grows, Opened, Call-by, Calls-in, Calls-from, Calls-around, Opens-way, Calls-with, Uses};
+ghost use Rattle.board.specs.Logs.{Ready, Best-kept, Grows, Opened, Call-by, Calls-in, Calls-from, Calls-around, Opens-way, Calls-with, Uses};
 use crate::log::Entry;
 use crate::log::Log;
 use crate::log::Opening;
@@ -18,10 +18,10 @@ use crate::tables::Tables;
 use costs::Kind;
 
 // The call that the row closes.
-pub fn offer_close<K: Kind>(t: &Tables, log: &Log, o: Opening, row: u8, best: &mut [Option<Entry>])
+pub(crate) fn offer_close<K: Kind>(t: &Tables, log: &Log, o: Opening, row: u8, best: &mut [Option<Entry>])
     requires ready { ⌜ Ready meaning (now t) (now log) ⌝ }
     requires opened { ⌜ Opened meaning (now t) (now log) o ⌝ }
-    requires ok { ⌜ Ok meaning (now t) (now log) (now best) ⌝ }
+    requires ok { ⌜ Best-kept meaning (now t) (now log) (now best) ⌝ }
     ensures { λ _. ⌜ Grows meaning (now (t .entry)) (now (log .entry)) (now (best .entry)) (now (best .exit)) (Call-by meaning (now (t .entry)) (now (log .entry)) (o .front) (o .inside) (o .row) row) ⌝ }
 {
     let b = log.entries[o.inside];
@@ -42,10 +42,10 @@ pub fn offer_close<K: Kind>(t: &Tables, log: &Log, o: Opening, row: u8, best: &m
 }
 
 // Each call with this opening.
-pub fn offer_closes<K: Kind>(t: &Tables, log: &Log, o: Opening, best: &mut [Option<Entry>])
+pub(crate) fn offer_closes<K: Kind>(t: &Tables, log: &Log, o: Opening, best: &mut [Option<Entry>])
     requires ready { ⌜ Ready meaning (now t) (now log) ⌝ }
     requires opened { ⌜ Opened meaning (now t) (now log) o ⌝ }
-    requires ok { ⌜ Ok meaning (now t) (now log) (now best) ⌝ }
+    requires ok { ⌜ Best-kept meaning (now t) (now log) (now best) ⌝ }
     ensures { λ _. ⌜ Grows meaning (now (t .entry)) (now (log .entry)) (now (best .entry)) (now (best .exit)) (Calls-in meaning (now (t .entry)) (now (log .entry)) (o .front) (o .inside) (o .row)) ⌝ }
 {
     let rows = t.row_count as u8;
@@ -55,7 +55,7 @@ pub fn offer_closes<K: Kind>(t: &Tables, log: &Log, o: Opening, best: &mut [Opti
 }
 
 // Where an open row leads from a place.
-pub fn opens<K: Kind>(t: &Tables, row: u8, place: Place) -> Option<Way>
+pub(crate) fn opens<K: Kind>(t: &Tables, row: u8, place: Place) -> Option<Way>
     ensures { λ r. ⌜ Opens-way meaning (now (t .entry)) row place r ⌝ }
 {
     let Some(h) = t.arrival::<K>(Move { row, line: None }, place) else {
@@ -72,10 +72,10 @@ pub fn opens<K: Kind>(t: &Tables, row: u8, place: Place) -> Option<Way>
 }
 
 // Each call from the entry i that the row opens.
-pub fn offer_insides<K: Kind>(t: &Tables, log: &Log, i: usize, row: u8, best: &mut [Option<Entry>])
+pub(crate) fn offer_insides<K: Kind>(t: &Tables, log: &Log, i: usize, row: u8, best: &mut [Option<Entry>])
     requires ready { ⌜ Ready meaning (now t) (now log) ⌝ }
     requires within { ⌜ i < now log .count ⌝ }
-    requires ok { ⌜ Ok meaning (now t) (now log) (now best) ⌝ }
+    requires ok { ⌜ Best-kept meaning (now t) (now log) (now best) ⌝ }
     ensures { λ _. ⌜ Grows meaning (now (t .entry)) (now (log .entry)) (now (best .entry)) (now (best .exit)) (Calls-from meaning (now (t .entry)) (now (log .entry)) i row) ⌝ }
 {
     let a = log.entries[i];
@@ -99,11 +99,11 @@ pub fn offer_insides<K: Kind>(t: &Tables, log: &Log, i: usize, row: u8, best: &m
 }
 
 // Each call with the inside j that the row opens.
-pub fn offer_fronts<K: Kind>(t: &Tables, log: &Log, j: usize, row: u8, best: &mut [Option<Entry>])
+pub(crate) fn offer_fronts<K: Kind>(t: &Tables, log: &Log, j: usize, row: u8, best: &mut [Option<Entry>])
     requires ready { ⌜ Ready meaning (now t) (now log) ⌝ }
     requires within { ⌜ j < now log .count ⌝ }
     requires listed { ⌜ row < now t .«row_count» ⌝ }
-    requires ok { ⌜ Ok meaning (now t) (now log) (now best) ⌝ }
+    requires ok { ⌜ Best-kept meaning (now t) (now log) (now best) ⌝ }
     ensures { λ _. ⌜ Grows meaning (now (t .entry)) (now (log .entry)) (now (best .entry)) (now (best .exit)) (Calls-around meaning (now (t .entry)) (now (log .entry)) j row) ⌝ }
 {
     let b = log.entries[j];
@@ -130,10 +130,10 @@ pub fn offer_fronts<K: Kind>(t: &Tables, log: &Log, j: usize, row: u8, best: &mu
 }
 
 // Each call that uses the entry i, as its front or as its inside.
-pub fn offer_calls<K: Kind>(t: &Tables, log: &Log, i: usize, best: &mut [Option<Entry>])
+pub(crate) fn offer_calls<K: Kind>(t: &Tables, log: &Log, i: usize, best: &mut [Option<Entry>])
     requires ready { ⌜ Ready meaning (now t) (now log) ⌝ }
     requires within { ⌜ i < now log .count ⌝ }
-    requires ok { ⌜ Ok meaning (now t) (now log) (now best) ⌝ }
+    requires ok { ⌜ Best-kept meaning (now t) (now log) (now best) ⌝ }
     ensures { λ _. ⌜ Grows meaning (now (t .entry)) (now (log .entry)) (now (best .entry)) (now (best .exit)) (Calls-with meaning (now (t .entry)) (now (log .entry)) i) ⌝ }
 {
     let rows = t.row_count as u8;
@@ -144,10 +144,10 @@ pub fn offer_calls<K: Kind>(t: &Tables, log: &Log, i: usize, best: &mut [Option<
 }
 
 // Each step and call that uses the entry i.
-pub fn offer_all<K: Kind>(t: &Tables, log: &Log, i: usize, best: &mut [Option<Entry>])
+pub(crate) fn offer_all<K: Kind>(t: &Tables, log: &Log, i: usize, best: &mut [Option<Entry>])
     requires ready { ⌜ Ready meaning (now t) (now log) ⌝ }
     requires within { ⌜ i < now log .count ⌝ }
-    requires ok { ⌜ Ok meaning (now t) (now log) (now best) ⌝ }
+    requires ok { ⌜ Best-kept meaning (now t) (now log) (now best) ⌝ }
     ensures { λ _. ⌜ Grows meaning (now (t .entry)) (now (log .entry)) (now (best .entry)) (now (best .exit)) (Uses meaning (now (t .entry)) (now (log .entry)) i) ⌝ }
 {
     offer_steps::<K>(t, log, i, best);

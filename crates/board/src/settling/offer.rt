@@ -68,7 +68,7 @@ fn keeps<K: Kind>(f: &Entry, new: &Entry) -> bool
 }
 
 // Puts the candidate at its pair where nothing stands there that goes before it.
-pub fn offer<K: Kind>(best: &mut [Option<Entry>], pair: usize, new: Entry)
+pub(crate) fn offer<K: Kind>(best: &mut [Option<Entry>], pair: usize, new: Entry)
     requires { ⌜ pair < length (now best) ⌝ }
     ensures { λ _. ⌜ now (best .exit) ≡ offered meaning (now (best .entry)) pair new ⌝ }
 {

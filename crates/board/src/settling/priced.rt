@@ -6,7 +6,7 @@ use crate::tables::Tables;
 use costs::Kind;
 
 // True for every board that came from the calls.
-pub fn priced<K: Kind>(t: &Tables) -> bool
+pub(crate) fn priced<K: Kind>(t: &Tables) -> bool
     ensures { λ r. ⌜ Tested r (Costs-held meaning (held (now (t .entry)))) ⌝ }
 {
     for i in 0..t.row_count {

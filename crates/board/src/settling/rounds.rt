@@ -134,7 +134,7 @@ fn settled_log<K: Kind>(t: &Tables) -> Log
 }
 
 // The settled log of the tables, where each cost that they hold is one of the kind; else an empty one.
-pub fn log_of<K: Kind>(t: &Tables) -> Log
+pub(crate) fn log_of<K: Kind>(t: &Tables) -> Log
     ensures book { λ r. ⌜ Book meaning (held (now (t .entry))) r ⌝ }
     ensures small { λ r. ⌜ Small-moves r ⌝ }
     ensures settled { λ r. ⌜ (Costs-held meaning (held (now (t .entry))) → Settled meaning (held (now (t .entry))) (records r)) ⌝ }

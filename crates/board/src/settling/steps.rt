@@ -2,7 +2,7 @@
 ghost use mathlib.Core.Path.{_≡_};
 ghost use Prim.Native.Nat.{_<_};
 ghost use Rattle.board.specs.declared.moves.Move.{Move as AMove};
-ghost use Rattle.board.specs.Logs.{Ready, Ok, Grows, Step-by};
+ghost use Rattle.board.specs.Logs.{Ready, Best-kept, Grows, Step-by};
 use crate::log::Entry;
 use crate::log::Log;
 use crate::log::Source;
@@ -13,10 +13,10 @@ use crate::tables::Tables;
 use costs::Kind;
 
 // The step from the entry i by the move v.
-pub fn offer_step<K: Kind>(t: &Tables, log: &Log, i: usize, v: Move, best: &mut [Option<Entry>])
+pub(crate) fn offer_step<K: Kind>(t: &Tables, log: &Log, i: usize, v: Move, best: &mut [Option<Entry>])
     requires ready { ⌜ Ready meaning (now t) (now log) ⌝ }
     requires within { ⌜ i < now log .count ⌝ }
-    requires ok { ⌜ Ok meaning (now t) (now log) (now best) ⌝ }
+    requires ok { ⌜ Best-kept meaning (now t) (now log) (now best) ⌝ }
     ensures { λ _. ⌜ Grows meaning (now (t .entry)) (now (log .entry)) (now (best .entry)) (now (best .exit)) (Step-by meaning (now (t .entry)) (now (log .entry)) i v) ⌝ }
 {
     let a = log.entries[i];
@@ -34,10 +34,10 @@ pub fn offer_step<K: Kind>(t: &Tables, log: &Log, i: usize, v: Move, best: &mut 
 }
 
 // All steps from the entry i.
-pub fn offer_steps<K: Kind>(t: &Tables, log: &Log, i: usize, best: &mut [Option<Entry>])
+pub(crate) fn offer_steps<K: Kind>(t: &Tables, log: &Log, i: usize, best: &mut [Option<Entry>])
     requires ready { ⌜ Ready meaning (now t) (now log) ⌝ }
     requires within { ⌜ i < now log .count ⌝ }
-    requires ok { ⌜ Ok meaning (now t) (now log) (now best) ⌝ }
+    requires ok { ⌜ Best-kept meaning (now t) (now log) (now best) ⌝ }
     ensures { λ _. ⌜ Grows meaning (now (t .entry)) (now (log .entry)) (now (best .entry)) (now (best .exit)) (λ y. (v : AMove) × Step-by meaning (now (t .entry)) (now (log .entry)) i v y) ⌝ }
 {
     let rows = t.row_count as u8;

@@ -35,7 +35,7 @@ const NO_LINE: Line = Line {
 
 impl Tables {
     // One mode, one moment, no row and no line.
-    pub fn new() -> Tables
+    pub(crate) fn new() -> Tables
         ensures { λ r. ⌜ held r ≡ new ⌝ }
     {
         Tables {
@@ -48,34 +48,34 @@ impl Tables {
         }
     }
 
-    pub fn modes(&self) -> u8
+    pub(crate) fn modes(&self) -> u8
         ensures { λ r. ⌜ r ≡ held (now (self .entry)) .modes ⌝ }
     {
         self.modes
     }
 
-    pub fn moments(&self) -> u8
+    pub(crate) fn moments(&self) -> u8
         ensures { λ r. ⌜ r ≡ held (now (self .entry)) .moments ⌝ }
     {
         self.moments
     }
 
     // How many rows are held.
-    pub fn row_count(&self) -> usize
+    pub(crate) fn row_count(&self) -> usize
         ensures { λ r. ⌜ r ≡ length (held (now (self .entry)) .rows) ⌝ }
     {
         self.row_count
     }
 
     // How many lines are held.
-    pub fn line_count(&self) -> usize
+    pub(crate) fn line_count(&self) -> usize
         ensures { λ r. ⌜ r ≡ length (held (now (self .entry)) .lines) ⌝ }
     {
         self.line_count
     }
 
     // The row of that number.
-    pub fn row_at(&self, n: usize) -> Option<Row>
+    pub(crate) fn row_at(&self, n: usize) -> Option<Row>
         ensures { λ r. ⌜ r ≡ nth (held (now (self .entry)) .rows) n ⌝ }
     {
         if n < self.row_count {
@@ -86,7 +86,7 @@ impl Tables {
     }
 
     // The line of that number.
-    pub fn line_at(&self, n: usize) -> Option<Line>
+    pub(crate) fn line_at(&self, n: usize) -> Option<Line>
         ensures { λ r. ⌜ r ≡ nth (held (now (self .entry)) .lines) n ⌝ }
     {
         if n < self.line_count {
@@ -97,7 +97,7 @@ impl Tables {
     }
 
     // Another size, of tables that hold nothing.
-    pub fn resize(&mut self, modes: u8, moments: u8)
+    pub(crate) fn resize(&mut self, modes: u8, moments: u8)
         requires empty { ⌜ (length (held (now self) .rows) ≡ 0) × (length (held (now self) .lines) ≡ 0) ⌝ }
         requires sized { ⌜ (0 < modes) × (0 < moments) × (modes * moments ≤ 64) ⌝ }
         ensures { λ _. ⌜ held (now (self .exit)) ≡ with-size (held (now (self .entry))) modes moments ⌝ }
@@ -107,7 +107,7 @@ impl Tables {
     }
 
     // Puts the row last.
-    pub fn push_row(&mut self, row: Row)
+    pub(crate) fn push_row(&mut self, row: Row)
         requires room { ⌜ length (held (now self) .rows) < 128 ⌝ }
         requires within { ⌜ (row .from < held (now self) .modes) × (row .to < held (now self) .modes) ⌝ }
         requires formed { ⌜ formed (row .kind) row ≡ true ⌝ }
@@ -119,7 +119,7 @@ impl Tables {
     }
 
     // Puts the line last.
-    pub fn push_line(&mut self, line: Line)
+    pub(crate) fn push_line(&mut self, line: Line)
         requires room { ⌜ length (held (now self) .lines) < 128 ⌝ }
         requires within { ⌜ (line .from < held (now self) .moments) × (line .to < held (now self) .moments) × (0 < line .event) ⌝ }
         ensures { λ _. ⌜ held (now (self .exit)) ≡ with-line (held (now (self .entry))) line ⌝ }
@@ -130,7 +130,7 @@ impl Tables {
     }
 
     // Gives one row another cost.
-    pub fn price_row(&mut self, n: usize, cost: u32)
+    pub(crate) fn price_row(&mut self, n: usize, cost: u32)
         requires { ⌜ n < length (held (now self) .rows) ⌝ }
         ensures { λ _. ⌜ held (now (self .exit)) ≡ with-row-cost (held (now (self .entry))) n cost ⌝ }
     {
@@ -138,7 +138,7 @@ impl Tables {
     }
 
     // Gives one line another cost.
-    pub fn price_line(&mut self, n: usize, cost: u32)
+    pub(crate) fn price_line(&mut self, n: usize, cost: u32)
         requires { ⌜ n < length (held (now self) .lines) ⌝ }
         ensures { λ _. ⌜ held (now (self .exit)) ≡ with-line-cost (held (now (self .entry))) n cost ⌝ }
     {
@@ -146,7 +146,7 @@ impl Tables {
     }
 
     // Drops all lines, and answers how many there were.
-    pub fn clear_lines(&mut self) -> usize
+    pub(crate) fn clear_lines(&mut self) -> usize
         ensures answer { λ r. ⌜ r ≡ length (held (now (self .entry)) .lines) ⌝ }
         ensures after { λ _. ⌜ held (now (self .exit)) ≡ without-lines (held (now (self .entry))) ⌝ }
     {
@@ -155,14 +155,14 @@ impl Tables {
         n
     }
     // The number of a place.
-    pub fn place_number(&self, place: Place) -> usize
+    pub(crate) fn place_number(&self, place: Place) -> usize
         ensures number { λ r. ⌜ r ≡ place-number (held (now (self .entry))) place ⌝ }
         ensures small { λ r. ⌜ r < 65536 ⌝ }
     {
         place.0 as usize * self.moments as usize + place.1 as usize
     }
     // The number of a pair of places.
-    pub fn pair(&self, from: Place, to: Place) -> usize
+    pub(crate) fn pair(&self, from: Place, to: Place) -> usize
         ensures { λ r. ⌜ r ≡ pair-of (held (now (self .entry))) from to ⌝ }
     {
         self.place_number(from) * 64 + self.place_number(to)

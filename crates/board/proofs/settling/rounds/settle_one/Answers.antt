@@ -8,7 +8,7 @@ use Rattle.std.specs.declared.option.Option.the-variants.{None}
 use Rattle.board.specs.declared.log.Log.{Log}
 use Rattle.board.specs.Held.{held}
 use Rattle.board.specs.Logged.{pair-of}
-use Rattle.board.specs.Logs.{Ready, Ok, State, Grows, Uses, records, pushed}
+use Rattle.board.specs.Logs.{Ready, Best-kept, State, Grows, Uses, records, pushed}
 use Rattle.board.proofs.Growing.{pair-in}
 use Rattle.board.proofs.Pushing.{room-here, pushed-records, pushed-ready, pushed-ok, pushed-state}
 
@@ -24,7 +24,7 @@ pub offer-all-requires : need.offer-all-requires
 offer-all-requires g c κs = record {
   ready = subst (λ (x : Log). Ready (g .K·Kind .meaning) (c .args .t .now) x) (sym (c .push .ensures)) (pushed-ready (c .pre .state .ready) (c .pair .result) (c .args .r) (c .pair .ensures) (ap (λ (n : ℕ). getD (c .args .log .now .index) n None) (c .pair .ensures) ∙ c .pre .fresh) (c .pre .kept) (c .pre .refers) (c .length-of-k .result) (c .length-of-k .ensures));
   within = omega (arith, ap (λ (x : Log). x .count) (c .push .ensures));
-  ok = subst (λ (x : Log). Ok (g .K·Kind .meaning) (c .args .t .now) x (c .args .best .now)) (sym (c .push .ensures)) (pushed-ok (c .pre .state .ready) (c .pair .result) (c .args .r) (c .pair .ensures) (ap (λ (n : ℕ). getD (c .args .log .now .index) n None) (c .pair .ensures) ∙ c .pre .fresh) (c .pre .kept) (c .pre .refers) (c .length-of-k .result) (c .length-of-k .ensures) (c .pre .state .ok));
+  ok = subst (λ (x : Log). Best-kept (g .K·Kind .meaning) (c .args .t .now) x (c .args .best .now)) (sym (c .push .ensures)) (pushed-ok (c .pre .state .ready) (c .pair .result) (c .args .r) (c .pair .ensures) (ap (λ (n : ℕ). getD (c .args .log .now .index) n None) (c .pair .ensures) ∙ c .pre .fresh) (c .pre .kept) (c .pre .refers) (c .length-of-k .result) (c .length-of-k .ensures) (c .pre .state .ok));
 }
 
 pub returns : need.returns
