@@ -7,7 +7,7 @@ use Rattle.std.specs.declared.option.Option.{Option}
 use Rattle.std.specs.declared.option.Option.the-variants.{Some, None}
 use Rattle.costs.specs.Meaning.{Meaning, Cost, NoDearer}
 use mathlib.Core.Bool.{Bool, true, false}
-use Rattle.board.specs.Settling.{Rounds, Settled, Cheaper, Record, bare, Candidate}
+use Rattle.board.specs.Settling.{Round, Rounds, Settled, Cheaper, Record, bare, Candidate}
 use Rattle.board.specs.declared.moves.Effect.the-variants.{Opens}
 use Rattle.board.specs.declared.log.Opening.{Opening}
 use Rattle.board.specs.Content.{Content, Sound}
@@ -164,7 +164,14 @@ empty = record { entries = replicate 4096 blank; count = 0; index = replicate 40
 abbrev pub Reached : Meaning → Content → List Record → Type 0
 Reached m c log = (n : ℕ) × Rounds m c n log
 
--- what a round makes of the log: one record more, or nothing where it is settled
+-- l′ is l with one record more, the one that a round adds
+pub record Round-added (m : Meaning) (c : Content) (l l′ : Log) : Type 0 where
+  pub added : Record
+  pub round : Round m c (records l) added
+  pub more : records l′ ≡ added ∷ records l
+  pub count : l′ .count ≡ l .count + 1
+
+-- what a round makes of the log: the round's record is added, or the log is settled and stays as it was
 abbrev pub Round-made : Meaning → Content → Log → Log → Bool → Type 0
-Round-made m c l l′ true = l′ .count ≡ l .count + 1
-Round-made m c l l′ false = Settled m c (records l′)
+Round-made m c l l′ true = Round-added m c l l′
+Round-made m c l l′ false = Settled m c (records l′) × (l′ ≡ l)
