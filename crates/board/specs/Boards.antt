@@ -12,9 +12,11 @@ use Rattle.board.specs.Settling.{Record, bare}
 use Rattle.board.specs.Logs.{records, nth-record}
 use Rattle.board.specs.Computing.{Reading-found}
 
+-- the content of a settled board
 abbrev pub settled-content : {K : Type 0} → Settled K → Content
 settled-content s = held (s .tables)
 
+-- its records, the newest first
 abbrev pub settled-records : {K : Type 0} → Settled K → List Record
 settled-records s = records (s .log)
 

@@ -23,9 +23,11 @@ size-fault c modes moments =
     ∷ ((eqb (modes * moments) 0 || ltb 64 (modes * moments)), SizeOut)
     ∷ [])
 
+-- the content with this size
 abbrev pub with-size : Content → ℕ → ℕ → Content
 with-size c modes moments = record { modes = modes; moments = moments; rows = c .rows; lines = c .lines }
 
+-- the content after the call: as it was where the call is refused
 abbrev pub size-after : Content → ℕ → ℕ → Content
 size-after c modes moments = unless (size-fault c modes moments) (with-size c modes moments) c
 
@@ -39,9 +41,11 @@ row-fault m c r =
     ∷ (not (m .is-cost (r .cost)), NoCost)
     ∷ [])
 
+-- the content with this row last
 abbrev pub with-row : Content → Row → Content
 with-row c r = record { modes = c .modes; moments = c .moments; rows = c .rows ++ (r ∷ []); lines = c .lines }
 
+-- the content after the call
 abbrev pub row-after : Meaning → Content → Row → Content
 row-after m c r = unless (row-fault m c r) (with-row c r) c
 
@@ -53,12 +57,15 @@ line-faults m moments l =
     ∷ (not (m .is-cost (l .cost)), NoCost)
     ∷ []
 
+-- the first that applies, the count before the line's own
 abbrev pub line-fault : Meaning → Content → Line → Option Refusal
 line-fault m c l = first ((leb 128 (length (c .lines)), LinesFull) ∷ line-faults m (c .moments) l)
 
+-- the content with this line last
 abbrev pub with-line : Content → Line → Content
 with-line c l = record { modes = c .modes; moments = c .moments; rows = c .rows; lines = c .lines ++ (l ∷ []) }
 
+-- the content after the call
 abbrev pub line-after : Meaning → Content → Line → Content
 line-after m c l = unless (line-fault m c l) (with-line c l) c
 
@@ -72,21 +79,27 @@ changed f [] i = []
 changed f (x ∷ xs) zero = f x ∷ xs
 changed f (x ∷ xs) (suc i) = x ∷ changed f xs i
 
+-- the row with this cost
 abbrev pub row-at-cost : ℕ → Row → Row
 row-at-cost cost r = record { kind = r .kind; from = r .from; to = r .to; label = r .label; action = r .action; cost = cost }
 
+-- the line with this cost
 abbrev pub line-at-cost : ℕ → Line → Line
 line-at-cost cost l = record { from = l .from; to = l .to; event = l .event; cost = cost }
 
+-- the content with this cost at row i
 abbrev pub with-row-cost : Content → ℕ → ℕ → Content
 with-row-cost c i cost = record { modes = c .modes; moments = c .moments; rows = changed (row-at-cost cost) (c .rows) i; lines = c .lines }
 
+-- the content with this cost at line i
 abbrev pub with-line-cost : Content → ℕ → ℕ → Content
 with-line-cost c i cost = record { modes = c .modes; moments = c .moments; rows = c .rows; lines = changed (line-at-cost cost) (c .lines) i }
 
+-- the content after row i is repriced
 abbrev pub reprice-row-after : Meaning → Content → ℕ → ℕ → Content
 reprice-row-after m c i cost = unless (reprice-fault m (c .rows) i cost) (with-row-cost c i cost) c
 
+-- the content after line i is repriced
 abbrev pub reprice-line-after : Meaning → Content → ℕ → ℕ → Content
 reprice-line-after m c i cost = unless (reprice-fault m (c .lines) i cost) (with-line-cost c i cost) c
 

@@ -14,9 +14,11 @@ abbrev pub top-first : ℕ → List ℕ → List ℕ
 top-first zero xs = []
 top-first (suc n) xs = getD xs n 0 ∷ top-first n xs
 
+-- the brackets that are open, the last one first
 abbrev pub unclosed-of : Brackets → List ℕ
 unclosed-of b = top-first (b .depth) (b .stack)
 
+-- how far the checker has come
 abbrev pub progress-of : Checker → Progress
 progress-of w = record { place = w .place; unclosed = unclosed-of (w .brackets); ended = w .ended; cost = w .cost }
 

@@ -42,9 +42,11 @@ pub record Progress : Type 0 where
   pub ended : Bool
   pub cost : ℕ
 
+-- before the first move: at place 0, no bracket open, nothing joined
 abbrev pub start : Meaning → Progress
 start m = record { place = origin; unclosed = []; ended = false; cost = m .free }
 
+-- after a move that leads to a, with these brackets open then, or refused for its brackets
 abbrev pub arrived : Meaning → ℕ → Arrival → Result (List ℕ) Refusal → Result Progress Refusal
 arrived m k a (Ok st) = Ok (record { place = a .to; unclosed = st; ended = is-end (a .effect); cost = m .join k (a .cost) })
 arrived m k a (Err e) = Err e
@@ -57,6 +59,7 @@ take-named m moments w (Some n) =
     (Err NotNext)
     (arrived m (w .cost) (leads m n (w .place)) (bracketed (leads m n (w .place) .effect) (w .unclosed)))
 
+-- what a packed move names: nothing where the number breaks the packing
 abbrev pub named-by-number : Content → Option Move → Option Named
 named-by-number c None = None
 named-by-number c (Some v) = named c v
@@ -65,6 +68,7 @@ named-by-number c (Some v) = named c v
 abbrev pub take-move : Meaning → Content → Progress → ℕ → Result Progress Refusal
 take-move m c w x = take-named m (c .moments) w (named-by-number c (unpacked x))
 
+-- goes on from there, or stops with the fault of move i
 abbrev pub or-fault : ℕ → Result Progress Refusal → (Progress → Result ℕ Fault) → Result ℕ Fault
 or-fault i (Ok w) f = f w
 or-fault i (Err e) f = Err (record { index = i; refusal = e })
@@ -75,6 +79,7 @@ abbrev pub checked-from : Meaning → Content → Progress → ℕ → List ℕ 
 checked-from m c w i [] = cond (w .ended) (Ok (w .cost)) (Err (record { index = i; refusal = NoEnd }))
 checked-from m c w i (x ∷ xs) = or-fault i (take-move m c w x) (λ v. checked-from m c v (suc i) xs)
 
+-- Check: the cost of the complete reading that the packed moves are, or the first faulty move.
 abbrev pub check-answer : Meaning → Content → List ℕ → Result ℕ Fault
 check-answer m c xs = checked-from m c (start m) 0 xs
 

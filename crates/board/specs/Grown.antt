@@ -33,7 +33,8 @@ pub record Best-ok (m : Meaning) (c : Content) (log : List Record) (best : List 
   pub offers : (p : ℕ) (r : Entry) → getD best p None ≡ Some r → Offers m c log r
   pub placed : (p : ℕ) (r : Entry) → getD best p None ≡ Some r → pair-of c (r .from) (r .to) ≡ p
 
--- what stands for y's pair goes before y, or is as good
+-- What stands for y's pair goes before y, or is as good. Only pair, cost and derivation are compared, so its moves are
+-- not spelled out.
 abbrev pub Covered : Meaning → Content → List (Option Entry) → Record → Type 0
 Covered m c best y = (r : Entry) × (getD best (pair-of c (y .from) (y .to)) None ≡ Some r) × Precedes m c (record-of [] r) y
 
@@ -43,6 +44,7 @@ pub record Grown (m : Meaning) (c : Content) (log : List Record) (best best′ :
   pub better : (y : Record) → Candidate m c log y → Covered m c best y → Covered m c best′ y
   pub covers : (y : Record) → Candidate m c log y → P y → Covered m c best′ y
 
+-- one of Q 0 to Q n, without the last
 abbrev pub Upto : (ℕ → Record → Type 0) → ℕ → Record → Type 0
 Upto Q n y = (i : ℕ) × (i < n) × Q i y
 

@@ -8,5 +8,6 @@ use Rattle.board.specs.Content.{Content}
 abbrev pub held : Tables → Content
 held t = record { modes = t .modes; moments = t .moments; rows = take (t .«row_count») (t .rows); lines = take (t .«line_count») (t .lines) }
 
+-- the content of a draft
 abbrev pub draft-content : {K : Type 0} → Draft K → Content
 draft-content d = held (d .tables)

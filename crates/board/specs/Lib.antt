@@ -1,27 +1,29 @@
+-- What a reader must believe: the rules, the questions and what their answers mean.
 pub mod Rows
-pub mod Refusals
 pub mod Content
-pub mod Fits
+pub mod Refusals
 pub mod Calls
-pub mod Held
 pub mod Moves
 pub mod Paths
 pub mod Arrivals
 pub mod Packing
 pub mod Checks
-pub mod Checkers
 pub mod Settling
 pub mod Computing
 pub mod Ease
 pub mod Promises
-pub mod Examples
+pub mod Questions
+pub mod Held
 pub mod Logged
+pub mod Boards
+pub mod Examples
+-- What only inner functions and proofs name, but for `records` of Logs, by which Boards says what a settled board holds.
+pub mod Fits
+pub mod Checkers
 pub mod Offered
 pub mod Grown
 pub mod Logs
 pub mod Priced
 pub mod Spelled
 pub mod Invariants
-pub mod Questions
 pub mod Entries
-pub mod Boards

@@ -21,12 +21,13 @@ abbrev pub settled-as : List Record → ℕ → Record
 settled-as [] i = nobody
 settled-as (x ∷ log) i = cond (eqb i (length log)) x (settled-as log i)
 
--- how the record came about, and its moves, from an entry's source
+-- how the record of an entry with this source came about
 abbrev pub derivation-of : Source → Derivation
 derivation-of Start = start
 derivation-of (Step i v) = by-step v
 derivation-of (Call i j o w t) = by-call o w t
 
+-- the moves of an entry with this source, over the log of the entries before it
 abbrev pub spelled : List Record → Source → List Move
 spelled log Start = []
 spelled log (Step i v) = settled-as log i .moves ++ (v ∷ [])

@@ -22,10 +22,11 @@ use Rattle.board.specs.Logged.{pair-of, logged, record-at, blank}
 use Rattle.board.specs.Held.{held}
 use Rattle.board.specs.Grown.{Refers, Best-ok, Covered, Grown, Stepped, Called}
 
+-- the records of a log, the newest first
 abbrev pub records : Log → List Record
 records l = logged (l .entries) (l .count)
 
--- the record that was settled as number i
+-- the entry number i
 abbrev pub numbered : Log → ℕ → Entry
 numbered l i = getD (l .entries) i blank
 
@@ -35,12 +36,14 @@ filled [] = 0
 filled (None ∷ xs) = filled xs
 filled (Some i ∷ xs) = suc (filled xs)
 
+-- the entry is between places of the board, at a cost of the kind
 pub record Kept (m : Meaning) (c : Content) (r : Entry) : Type 0 where
   pub price : Cost m (r .cost)
   pub from-on : On c (r .from)
   pub to-on : On c (r .to)
 
--- each record is a cost between places of the board, and the index finds it
+-- Each entry is between places of the board at a cost of the kind, the index finds it and nothing else, it refers to
+-- earlier ones, and its length is that of its moves, 65,536 where they are more.
 pub record Book (m : Meaning) (c : Content) (l : Log) : Type 0 where
   pub long : length (l .entries) ≡ 4096
   pub index-long : length (l .index) ≡ 4096
@@ -58,25 +61,31 @@ pub record Ready (m : Meaning) (t : Tables) (l : Log) : Type 0 where
   pub sound : Sound m (held t)
   pub book : Book m (held t) l
 
+-- each that stands as best is a candidate of the log, for its pair
 abbrev pub Best-kept : Meaning → Tables → Log → List (Option Entry) → Type 0
 Best-kept m t l best = Best-ok m (held t) (records l) best
 
+-- no candidate lost its cover, and those of P have one
 abbrev pub Grows : Meaning → Tables → Log → List (Option Entry) → List (Option Entry) → (Record → Type 0) → Type 0
 Grows m t l best best′ P = Grown m (held t) (records l) best best′ P
 
+-- the record of entry i
 abbrev pub nth-record : Log → ℕ → Record
 nth-record l i = record-at (l .entries) i
 
--- the steps and calls that use the record i
+-- the step from the record i by the move v
 abbrev pub Step-by : Meaning → Tables → Log → ℕ → Move → Record → Type 0
 Step-by m t l i v y = Stepped m (held t) (nth-record l i) v y
 
+-- the steps from the record i by the row
 abbrev pub Row-steps : Meaning → Tables → Log → ℕ → ℕ → Record → Type 0
 Row-steps m t l i row y = (v : Move) × (v .row ≡ row) × Step-by m t l i v y
 
+-- the step from the record i by the row with the line j
 abbrev pub Line-step : Meaning → Tables → Log → ℕ → ℕ → ℕ → Record → Type 0
 Line-step m t l i row j = Step-by m t l i (record { row = row; line = Some j })
 
+-- the call from the record i, inside the record j, opened by the row o and closed by the row w
 abbrev pub Call-by : Meaning → Tables → Log → ℕ → ℕ → ℕ → ℕ → Record → Type 0
 Call-by m t l i j o w y = Called m (held t) (nth-record l i) (nth-record l j) o w y
 
@@ -84,30 +93,36 @@ Call-by m t l i j o w y = Called m (held t) (nth-record l i) (nth-record l j) o 
 abbrev pub Calls-in : Meaning → Tables → Log → ℕ → ℕ → ℕ → Record → Type 0
 Calls-in m t l i j o y = (w : ℕ) × Call-by m t l i j o w y
 
+-- the calls from the record i that the row o opens
 abbrev pub Calls-from : Meaning → Tables → Log → ℕ → ℕ → Record → Type 0
 Calls-from m t l i o y = (j : ℕ) × (j < l .count) × Calls-in m t l i j o y
 
+-- the calls around the record j that the row o opens
 abbrev pub Calls-around : Meaning → Tables → Log → ℕ → ℕ → Record → Type 0
 Calls-around m t l j o y = (i : ℕ) × (i < l .count) × Calls-in m t l i j o y
 
--- those whose inside ends at the place u, or whose front starts at the place s
+-- those from the record i that the row o opens, whose inside ends at the place u
 abbrev pub Calls-to : Meaning → Tables → Log → ℕ → ℕ → ℕ → Record → Type 0
 Calls-to m t l i o u y = (j : ℕ) × (j < l .count) × (place-number (held t) (numbered l j .to) ≡ u) × Calls-in m t l i j o y
 
+-- those around the record j that the row o opens, whose front starts at the place s
 abbrev pub Calls-at : Meaning → Tables → Log → ℕ → ℕ → ℕ → Record → Type 0
 Calls-at m t l j o s y = (i : ℕ) × (i < l .count) × (place-number (held t) (numbered l i .from) ≡ s) × Calls-in m t l i j o y
 
+-- where the row o leads from p as an open row, or that it is none there
 abbrev pub Opens-way : Meaning → Tables → ℕ → Place → Option Way → Type 0
 Opens-way m t o p None = (q : Place) (k n : ℕ) → Transition m (held t) (bare o) p q k (Opens n) → ⊥
 Opens-way m t o p (Some w) = Transition m (held t) (bare o) p (w .to) (w .cost) (Opens (w .bracket))
 
--- those that the row o opens and that use the record i, and all that use it
+-- the calls that the row o opens and that use the record i, as front or as inside
 abbrev pub Calls-open : Meaning → Tables → Log → ℕ → ℕ → Record → Type 0
 Calls-open m t l i o y = Calls-from m t l i o y ⊎ Calls-around m t l i o y
 
+-- the calls that use the record i
 abbrev pub Calls-with : Meaning → Tables → Log → ℕ → Record → Type 0
 Calls-with m t l i y = (o : ℕ) × Calls-open m t l i o y
 
+-- the steps and calls that use the record i
 abbrev pub Uses : Meaning → Tables → Log → ℕ → Record → Type 0
 Uses m t l i y = ((v : Move) × Step-by m t l i v y) ⊎ Calls-with m t l i y
 
@@ -123,7 +138,7 @@ pub record Opened (m : Meaning) (t : Tables) (l : Log) (o : Opening) : Type 0 wh
 abbrev pub pushed : Log → ℕ → Entry → ℕ → Log
 pushed l p r n = record { entries = set (l .entries) (l .count) r; count = l .count + 1; index = set (l .index) p (Some (l .count)); lengths = set (l .lengths) (l .count) n }
 
--- the best candidate of each pair stands for every candidate
+-- what holds between rounds: the best candidate of each pair stands for every candidate
 pub record State (m : Meaning) (t : Tables) (l : Log) (best : List (Option Entry)) : Type 0 where
   pub ready : Ready m t l
   pub ok : Best-kept m t l best
@@ -134,9 +149,11 @@ abbrev pub vacant : Option ℕ → Option Entry → Option Entry
 vacant None x = x
 vacant (Some i) x = None
 
+-- what stands for the pair p, where it is not settled
 abbrev pub standing : Log → List (Option Entry) → ℕ → Option Entry
 standing l best p = vacant (getD (l .index) p None) (getD best p None)
 
+-- x stands for the first of the pairs below n whose candidate is the least, and is below the worst
 pub record First (m : Meaning) (f : ℕ → Option Entry) (n : ℕ) (x : Entry) : Type 0 where
   pub pair : ℕ
   pub pair-in : pair < n
@@ -149,10 +166,12 @@ abbrev pub Chosen : Meaning → (ℕ → Option Entry) → ℕ → Option Entry 
 Chosen m f n None = (q : ℕ) (r : Entry) → q < n → f q ≡ Some r → NoDearer m (m .worst) (r .cost)
 Chosen m f n (Some x) = First m f n x
 
+-- what the next must cost less than
 abbrev pub limit-of : Meaning → Option Entry → ℕ
 limit-of m None = m .worst
 limit-of m (Some x) = x .cost
 
+-- each that stands costs a cost of the kind
 abbrev pub Costs-best : Meaning → List (Option Entry) → Type 0
 Costs-best m best = (p : ℕ) (r : Entry) → getD best p None ≡ Some r → Cost m (r .cost)
 

@@ -21,9 +21,11 @@ use Rattle.board.specs.Content.{Content}
 abbrev pub Place : Type 0
 Place = ℕ × ℕ
 
+-- its mode
 abbrev pub mode : Place → ℕ
 mode p = p .0
 
+-- its moment
 abbrev pub moment : Place → ℕ
 moment p = p .1
 
@@ -46,6 +48,7 @@ effect-of Open n = Opens n
 effect-of Close n = Closes n
 effect-of End n = Ends
 
+-- what the row does to the brackets
 abbrev pub effect : Row → Effect
 effect r = effect-of (r .kind) (r .label)
 

@@ -16,5 +16,6 @@ abbrev pub keeps? : Meaning → Option Entry → Entry → Bool
 keeps? m None r = false
 keeps? m (Some f) r = cond (m .no-dearer (r .cost) (f .cost)) (cond (m .no-dearer (f .cost) (r .cost)) (lex? (derivation-key (derivation-of (f .source))) (derivation-key (derivation-of (r .source)))) false) true
 
+-- what stands after a candidate was offered for the pair
 abbrev pub offered : Meaning → List (Option Entry) → ℕ → Entry → List (Option Entry)
 offered m best p r = cond (keeps? m (getD best p None) r) best (set best p (Some r))

@@ -16,11 +16,12 @@ line-bits (Some j) = 128 + j
 abbrev pub packed : Move → ℕ
 packed v = v .row * 256 + line-bits (v .line)
 
--- row and line fit 7 bits
+-- the line fits 7 bits
 abbrev pub Small-line : Option ℕ → Type 0
 Small-line None = Unit {0}
 Small-line (Some j) = j < 128
 
+-- row and line fit 7 bits
 abbrev pub Small : Move → Type 0
 Small v = (v .row < 128) × Small-line (v .line)
 

@@ -15,10 +15,11 @@ use Rattle.board.specs.Content.{Content}
 abbrev pub Costs-held : Meaning → Content → Type 0
 Costs-held m c = ((i : ℕ) (r : Row) → nth (c .rows) i ≡ Some r → Cost m (r .cost)) × ((i : ℕ) (l : Line) → nth (c .lines) i ≡ Some l → Cost m (l .cost))
 
--- so far
+-- each of the first n rows has a cost of the kind
 abbrev pub Rows-priced : Meaning → ℕ → List Row → Type 0
 Rows-priced m n rs = (k : ℕ) (d : Row) → k < n → Cost m (getD rs k d .cost)
 
+-- the same of lines
 abbrev pub Lines-priced : Meaning → ℕ → List Line → Type 0
 Lines-priced m n ls = (k : ℕ) (d : Line) → k < n → Cost m (getD ls k d .cost)
 

@@ -19,17 +19,21 @@ pub record Spells (l : Log) : Type 0 where
   pub earlier : (i : ℕ) → i < l .count → Refers i (numbered l i .source)
   pub lengths-are : (i : ℕ) → i < l .count → getD (l .lengths) i 0 ≡ min (length (nth-record l i .moves)) 65536
 
+-- the moves of entry i
 abbrev pub moves-at : Log → ℕ → List Move
 moves-at l i = nth-record l i .moves
 
+-- move k of entry i
 abbrev pub move-of : Log → ℕ → ℕ → Move
 move-of l i k = getD (moves-at l i) k (bare 0)
 
+-- entry i has a move k, and fewer than 65,536 moves
 pub record Asked (l : Log) (i k : ℕ) : Type 0 where
   pub within : i < l .count
   pub inside : k < length (moves-at l i)
   pub short : length (moves-at l i) < 65536
 
+-- the turn is that move, or leads to an earlier entry that has it
 abbrev pub Turned : Log → ℕ → ℕ → Turn → Type 0
 Turned l i k (Here v) = v ≡ move-of l i k
 Turned l i k (Deeper j n) = (j < i) × Asked l j n × (move-of l j n ≡ move-of l i k)

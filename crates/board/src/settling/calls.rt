@@ -18,7 +18,13 @@ use crate::tables::Tables;
 use costs::Kind;
 
 // The call that the row closes.
-pub(crate) fn offer_close<K: Kind>(t: &Tables, log: &Log, o: Opening, row: u8, best: &mut [Option<Entry>])
+pub(crate) fn offer_close<K: Kind>(
+    t: &Tables,
+    log: &Log,
+    o: Opening,
+    row: u8,
+    best: &mut [Option<Entry>],
+)
     requires ready { ⌜ Ready meaning (now t) (now log) ⌝ }
     requires opened { ⌜ Opened meaning (now t) (now log) o ⌝ }
     requires ok { ⌜ Best-kept meaning (now t) (now log) (now best) ⌝ }
@@ -72,7 +78,13 @@ pub(crate) fn opens<K: Kind>(t: &Tables, row: u8, place: Place) -> Option<Way>
 }
 
 // Each call from the entry i that the row opens.
-pub(crate) fn offer_insides<K: Kind>(t: &Tables, log: &Log, i: usize, row: u8, best: &mut [Option<Entry>])
+pub(crate) fn offer_insides<K: Kind>(
+    t: &Tables,
+    log: &Log,
+    i: usize,
+    row: u8,
+    best: &mut [Option<Entry>],
+)
     requires ready { ⌜ Ready meaning (now t) (now log) ⌝ }
     requires within { ⌜ i < now log .count ⌝ }
     requires ok { ⌜ Best-kept meaning (now t) (now log) (now best) ⌝ }
@@ -99,7 +111,13 @@ pub(crate) fn offer_insides<K: Kind>(t: &Tables, log: &Log, i: usize, row: u8, b
 }
 
 // Each call with the inside j that the row opens.
-pub(crate) fn offer_fronts<K: Kind>(t: &Tables, log: &Log, j: usize, row: u8, best: &mut [Option<Entry>])
+pub(crate) fn offer_fronts<K: Kind>(
+    t: &Tables,
+    log: &Log,
+    j: usize,
+    row: u8,
+    best: &mut [Option<Entry>],
+)
     requires ready { ⌜ Ready meaning (now t) (now log) ⌝ }
     requires within { ⌜ j < now log .count ⌝ }
     requires listed { ⌜ row < now t .«row_count» ⌝ }

@@ -13,7 +13,13 @@ use crate::tables::Tables;
 use costs::Kind;
 
 // The step from the entry i by the move v.
-pub(crate) fn offer_step<K: Kind>(t: &Tables, log: &Log, i: usize, v: Move, best: &mut [Option<Entry>])
+pub(crate) fn offer_step<K: Kind>(
+    t: &Tables,
+    log: &Log,
+    i: usize,
+    v: Move,
+    best: &mut [Option<Entry>],
+)
     requires ready { ⌜ Ready meaning (now t) (now log) ⌝ }
     requires within { ⌜ i < now log .count ⌝ }
     requires ok { ⌜ Best-kept meaning (now t) (now log) (now best) ⌝ }
