@@ -8,6 +8,7 @@ use std::marker::PhantomData;
 
 mod questions;
 mod reading;
+mod rows;
 mod settle;
 
 // A settled board whose costs are of the kind K.

@@ -5,9 +5,9 @@ use Prim.Native.Nat.{ℕ, _+_, _<_, _≤_}
 use lib.ListN.{length, getD, drop}
 use Rattle.std.specs.Joined.{joined}
 use Rattle.std.proofs.shelf.Lists.{drop-more, drop-all}
-use Rattle.price.specs.Pieces.{newline, pieces-of, No-separator}
+use Rattle.words.specs.Pieces.{newline, pieces-of, No-separator}
 use Rattle.price.specs.Report.{line-printed, report-of, Line-by-line}
-use Rattle.price.proofs.Cutting.{cuts-apart}
+use Rattle.words.proofs.Cutting.{cuts-apart}
 
 -- three parts added one after another
 pub three-parts : (out a b c x y z : List ℕ) → x ≡ out ++ a → y ≡ x ++ b → z ≡ y ++ c → z ≡ out ++ (a ++ (b ++ c))

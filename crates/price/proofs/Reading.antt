@@ -13,8 +13,8 @@ use Rattle.std.proofs.shelf.Lists.{drop-more, drop-all}
 use Rattle.std.proofs.shelf.Tests.{cond-true, cond-false, cases-bool}
 use Rattle.costs.specs.Meaning.{Meaning}
 use Rattle.costs.specs.Lists.{no-cost-from, unless-no-cost, joined, join-answer}
-use Rattle.price.specs.Numbers.{number-of}
-use Rattle.price.specs.Lines.{nothing, without-return, kind-of, read-first, read-costs, costs-answer, kind-answer, words-answer}
+use Rattle.words.specs.Numbers.{number-of}
+use Rattle.price.specs.Lines.{nothing, largest, without-return, kind-of, read-first, read-costs, costs-answer, kind-answer, words-answer}
 
 -- the index that joining answers lies within the list
 module _ (m : Meaning) where
@@ -44,13 +44,13 @@ one-number ns w n (Err v) = refl
 
 -- one word of the list
 module _ (ws : List (List ℕ)) (i : ℕ) (within : i < length ws) (ns : List ℕ) where
-  pub number-next : (n : ℕ) → number-of (getD ws i []) ≡ Some n → after (ns ++ (n ∷ [])) (read-costs (drop (i + 1) ws)) ≡ after ns (read-costs (drop i ws))
+  pub number-next : (n : ℕ) → number-of largest (getD ws i []) ≡ Some n → after (ns ++ (n ∷ [])) (read-costs (drop (i + 1) ws)) ≡ after ns (read-costs (drop i ws))
   number-next n e =
       one-number ns (getD ws i []) n (read-costs (drop (i + 1) ws))
       ∙ ap (λ o. after ns (read-first (getD ws i []) o (read-costs (drop (i + 1) ws)))) (sym e)
       ∙ sym (ap (λ vs. after ns (read-costs vs)) (drop-more ws i [] within))
 
-  pub number-stop : number-of (getD ws i []) ≡ None → after ns (read-costs (drop i ws)) ≡ Err (getD ws i [])
+  pub number-stop : number-of largest (getD ws i []) ≡ None → after ns (read-costs (drop i ws)) ≡ Err (getD ws i [])
   number-stop e =
       ap (λ vs. after ns (read-costs vs)) (drop-more ws i [] within)
       ∙ ap (λ o. after ns (read-first (getD ws i []) o (read-costs (drop (i + 1) ws)))) e
@@ -67,7 +67,7 @@ same-length w ws (Some n) (Err v) rest ns e = let z : _≡_ {A = ℕ} 0 1 = cc i
 
 pub read-length : (ws : List (List ℕ)) (ns : List ℕ) → read-costs ws ≡ Ok ns → length ws ≡ length ns
 read-length [] ns e = let same : [] ≡ ns = cc in ap length same
-read-length (w ∷ ws) ns e = same-length w ws (number-of w) (read-costs ws) (read-length ws) ns e
+read-length (w ∷ ws) ns e = same-length w ws (number-of largest w) (read-costs ws) (read-length ws) ns e
 
 -- a line with no byte, and one with no word
 pub empty-line : (bs : List ℕ) → length bs ≡ 0 → bs ≡ without-return bs

@@ -13,11 +13,11 @@ use Rattle.std.proofs.shelf.Decimals.{decimal-some}
 use Rattle.std.proofs.shelf.Tests.{cond-false, and-parts, or-from, ne-eqb, leb-true}
 use Rattle.std.proofs.shelf.Ways.{tells}
 use Rattle.costs.specs.Meaning.{Meaning}
-use Rattle.price.specs.Numbers.{is-digit, all-digits}
-use Rattle.price.specs.Pieces.{spacing, pieces-of, No-separator}
-use Rattle.price.specs.Lines.{without-return, kind-with-letter, read-first, read-costs, costs-answer, kind-answer, words-answer, written-costs, Of-32-bits, Reads-written}
-use Rattle.price.proofs.Cutting.{cuts-apart}
-use Rattle.price.proofs.Decimal.{decimal-digits, reads-back}
+use Rattle.words.specs.Numbers.{is-digit, all-digits}
+use Rattle.words.specs.Pieces.{spacing, pieces-of, No-separator}
+use Rattle.price.specs.Lines.{without-return, largest, kind-with-letter, read-first, read-costs, costs-answer, kind-answer, words-answer, written-costs, Of-32-bits, Reads-written}
+use Rattle.words.proofs.Cutting.{cuts-apart}
+use Rattle.words.proofs.Digits.{decimal-digits, reads-back}
 
 -- a carriage return
 abbrev returns : ℕ → Bool
@@ -58,17 +58,17 @@ written-words w [] some uncut small = ap (pieces-of spacing) (append-nil w) ∙ 
 written-words w (x ∷ xs) some uncut small =
     cuts-apart spacing .apart w 32 (decimal x ++ written-costs xs) refl
     ∙ ap (λ ps. ps ++ pieces-of spacing (decimal x ++ written-costs xs)) (one-piece w some uncut)
-    ∙ ap (λ ps. w ∷ ps) (written-words (decimal x) xs (decimal-some x (omega (arith, small .0))) (uncut-digits spacing not-spacing (decimal x) (decimal-digits x (small .0))) (small .1))
+    ∙ ap (λ ps. w ∷ ps) (written-words (decimal x) xs (decimal-some x (omega (arith, small .0))) (uncut-digits spacing not-spacing (decimal x) (decimal-digits x (omega (arith, small .0)))) (small .1))
 
 no-return : (xs : List ℕ) → Of-32-bits xs → No-separator returns (written-costs xs)
 no-return [] small = tt
 no-return (x ∷ xs) small =
-    (refl, uncut-append returns (decimal x) (written-costs xs) (uncut-digits returns not-return (decimal x) (decimal-digits x (small .0))) (no-return xs (small .1)))
+    (refl, uncut-append returns (decimal x) (written-costs xs) (uncut-digits returns not-return (decimal x) (decimal-digits x (omega (arith, small .0)))) (no-return xs (small .1)))
 
 written-numbers : (xs : List ℕ) → Of-32-bits xs → read-costs (map decimal xs) ≡ Ok xs
 written-numbers [] small = refl
 written-numbers (x ∷ xs) small =
-    ap (λ o. read-first (decimal x) o (read-costs (map decimal xs))) (reads-back x (small .0))
+    ap (λ o. read-first (decimal x) o (read-costs (map decimal xs))) (reads-back largest (omega arith) x (omega (arith, small .0)))
     ∙ ap (read-first (decimal x) (Some x)) (written-numbers xs (small .1))
 
 pub reads-written : Reads-written

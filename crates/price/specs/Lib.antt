@@ -1,4 +1,2 @@
-pub mod Numbers
-pub mod Pieces
 pub mod Lines
 pub mod Report

@@ -14,8 +14,8 @@ use Rattle.std.specs.declared.result.Result.the-variants.{Ok, Err}
 use Rattle.costs.specs.Meaning.{Meaning}
 use Rattle.costs.specs.Lists.{join-answer}
 use Rattle.costs.specs.Kinds.{points, severity, rank}
-use Rattle.price.specs.Numbers.{number-of}
-use Rattle.price.specs.Pieces.{spacing, pieces-of}
+use Rattle.words.specs.Numbers.{number-of}
+use Rattle.words.specs.Pieces.{spacing, pieces-of}
 use Rattle.price.specs.declared.answer.Answer.{Answer}
 use Rattle.price.specs.declared.answer.Answer.the-variants.{Nothing, Total, NoCost, Unreadable}
 use Rattle.price.specs.declared.line.Named.{Named}
@@ -52,6 +52,10 @@ kind-of [] = None
 kind-of (l ∷ []) = kind-with-letter l
 kind-of (l ∷ b ∷ bs) = None
 
+-- the largest number that a cost is written as
+abbrev pub largest : ℕ
+largest = 4294967295
+
 -- the first word's number before those of the words after it
 abbrev pub read-first : List ℕ → Option ℕ → Result (List ℕ) (List ℕ) → Result (List ℕ) (List ℕ)
 read-first w None rest = Err w
@@ -61,7 +65,7 @@ read-first w (Some n) (Err v) = Err v
 -- the words' numbers, or the first word that is no number
 abbrev pub read-costs : List (List ℕ) → Result (List ℕ) (List ℕ)
 read-costs [] = Ok []
-read-costs (w ∷ ws) = read-first w (number-of w) (read-costs ws)
+read-costs (w ∷ ws) = read-first w (number-of largest w) (read-costs ws)
 
 -- what joining answered: the joined cost, or the word of the first number that is no cost
 abbrev pub joined-or-no-cost : Meaning → List (List ℕ) → Result ℕ ℕ → Line-answer

@@ -7,7 +7,7 @@ use Rattle.std.specs.Joined.{joined}
 use lib.Utf8.{encode}
 use Rattle.std.specs.Written.{decimal}
 use Rattle.price.specs.Lines.{Line-answer, nothing, total, no-cost, unreadable, line-answer}
-use Rattle.price.specs.Pieces.{newline, pieces-of, No-separator}
+use Rattle.words.specs.Pieces.{newline, pieces-of, No-separator}
 
 -- a line of a label and a word
 abbrev pub word-line : List ℕ → List ℕ → List ℕ

@@ -6,10 +6,6 @@ ghost use Rattle.std.specs.Options.{mapped};
 ghost use Rattle.std.specs.Vec.{made};
 ghost use Rattle.price.specs.Lines.{without-return, meaning-of, kind-of, numbers-of, read-costs, answer-of, joined-answer, words-answer, line-answer, Reads-written};
 use crate::answer::Answer;
-use crate::number::number;
-use crate::pieces::Spacing;
-use crate::pieces::SpacingSeparator;
-use crate::pieces::pieces;
 use costs::Kind;
 use costs::Points;
 use costs::PointsKind;
@@ -20,6 +16,13 @@ use costs::SeverityKind;
 use costs::join_all;
 use std::alloc::AllocError;
 use std::alloc::Global;
+use words::Spacing;
+use words::SpacingSeparator;
+use words::number;
+use words::pieces;
+
+// The largest number that a cost is written as.
+const LARGEST: u64 = 4_294_967_295;
 
 // A kind, as its letter names it.
 #[derive(Clone, Copy)]
@@ -71,8 +74,8 @@ fn numbers<'a>(heap: Global, words: &[&'a [u8]]) -> Result<Costs<'a>, AllocError
 {
     let mut numbers = Vec::new(heap);
     for word in words {
-        match number(word) {
-            Some(n) => numbers.push(n)?,
+        match number(word, LARGEST) {
+            Some(n) => numbers.push(n as u32)?,
             None => return Ok(Costs::Unreadable(word)),
         }
     }

@@ -1,8 +1,6 @@
 // Reads lines of a kind's letter and costs from standard input, and prints what each line comes to.
 mod answer;
 mod line;
-mod number;
-mod pieces;
 mod text;
 
 use std::error::AnyError;

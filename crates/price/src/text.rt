@@ -7,11 +7,11 @@ ghost use Rattle.price.specs.Lines.{answer-of};
 ghost use Rattle.price.specs.Report.{word-line, printed, report-of, Line-by-line};
 use crate::answer::Answer;
 use crate::line::answer;
-use crate::pieces::Newline;
-use crate::pieces::NewlineSeparator;
-use crate::pieces::pieces;
 use std::alloc::AllocError;
 use std::alloc::Global;
+use words::Newline;
+use words::NewlineSeparator;
+use words::pieces;
 
 // Adds a line of a label and the word.
 fn push_word_line(out: &mut Vec<u8>, label: &[u8], word: &[u8]) -> Result<(), AllocError>

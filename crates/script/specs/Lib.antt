@@ -1,0 +1,5 @@
+pub mod Calls
+pub mod Names
+pub mod Forms
+pub mod Runs
+pub mod Script
