@@ -3,7 +3,7 @@ use mathlib.Core.Path.{_≡_}
 use mathlib.Core.Bool.{true, false}
 use Rattle.costs.specs.Kinds.{points, rank}
 
-pub record Worked-examples : Type 0 where
+pub record Joining-examples : Type 0 where
   -- 1 breach and 1,048,575 seconds joined with 1 second is unchanged
   pub full-seconds : rank .join 2097151 1 ≡ 2097151
   -- 4,095 breaches are no cost

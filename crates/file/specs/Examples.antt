@@ -30,7 +30,7 @@ small = record { letter = 80; modes = 1; moments = 1; trust = 16; rows = Some (e
 abbrev pub small-bytes : List ℕ
 small-bytes = 80 ∷ 2 ∷ 4 ∷ 16 ∷ 16 ∷ 1 ∷ 192 ∷ 0 ∷ 0 ∷ 0 ∷ 0 ∷ 0 ∷ 0 ∷ 0 ∷ 48 ∷ 2 ∷ 104 ∷ 105 ∷ []
 
-pub record Worked-examples : Type 0 where
+pub record Layout-examples : Type 0 where
   -- points, three modes, three moments, trust 16
   pub header-written : header-word 80 3 3 16 ≡ 0x50060C10
   pub header-taken : header-read points 0x50060C10 ≡ Ok (record { modes = 3; moments = 3; trust = 16 })

@@ -3,7 +3,7 @@ ghost use mathlib.Core.Path.{_≡_};
 ghost use Rattle.costs.specs.Meaning.{Meaning};
 ghost use Rattle.board.specs.Content.{Content, Sound};
 ghost use Rattle.board.specs.Held.{draft-content};
-ghost use Rattle.file.specs.Examples.{Worked-examples};
+ghost use Rattle.file.specs.Examples.{Layout-examples};
 ghost use Rattle.file.specs.Parts.{answered};
 ghost use Rattle.file.specs.Records.{told};
 ghost use Rattle.file.specs.Layout.{Loads-exactly};
@@ -32,7 +32,7 @@ pub trait Load {
         ensures after { λ _. ⌜ content (now (self .exit)) ≡ load-after costs (now (bytes .entry)) ⌝ }
         ensures sound { λ _. ⌜ Sound costs (content (now (self .exit))) ⌝ }
         ensures exact { λ r. ⌜ Loads-exactly costs (now (bytes .entry)) (answered r) (content (now (self .exit))) ⌝ }
-        ensures examples { λ _. ⌜ Worked-examples ⌝ };
+        ensures examples { λ _. ⌜ Layout-examples ⌝ };
 }
 
 pub impl<K: Kind> Load for Draft<K> as DraftLoad {

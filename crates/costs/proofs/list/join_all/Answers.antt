@@ -4,12 +4,12 @@ use native.Mathlib.Omega.{arith}
 use lib.ListN.{drop}
 use Rattle.std.proofs.shelf.Lists.{drop-all}
 use Rattle.std.specs.declared.result.Result.the-variants.{Ok}
-use Rattle.costs.specs.Examples.{Worked-examples}
+use Rattle.costs.specs.Examples.{Joining-examples}
 use Rattle.costs.specs.Lists.{joined-onto, no-cost-from, unless-no-cost, joined}
 use Rattle.costs.proofs.Joining.{cut-anywhere, onto-next, no-cost-next, no-cost-here}
 use Rattle.costs.proofs.list.join_all.Needs as need
 
-worked : Worked-examples
+worked : Joining-examples
 worked = record { full-seconds = refl; no-rank = refl; last-rank = refl; too-many-breaches = refl; last-sum = refl; first-worst = refl }
 
 pub loop-i-holds : need.loop-i-holds

@@ -2,11 +2,11 @@ use mathlib.Core.Path.{refl}
 use native.Mathlib.Omega.{arith}
 use Rattle.file.specs.Records.{row-added, line-added, records}
 use Rattle.file.specs.Load.{at-end, from-note, from-lines, from-rows, sized}
-use Rattle.file.specs.Examples.{Worked-examples}
+use Rattle.file.specs.Examples.{Layout-examples}
 use Rattle.file.proofs.Exactly.{exactly}
 use Rattle.file.proofs.loading.DraftLoad.load.Needs as need
 
-worked : Worked-examples
+worked : Layout-examples
 unfolding row-added line-added records at-end from-note from-lines from-rows sized
 worked = record {
   header-written = refl;
