@@ -6,10 +6,10 @@ use native.Mathlib.Omega.{arith}
 use lib.ListN.{length, getD, drop, replicate}
 use Rattle.std.specs.declared.option.Option.{Option}
 use Rattle.std.specs.declared.option.Option.the-variants.{Some, None}
-use Rattle.std.proofs.shelf.Lists.{append-assoc, append-nil, length-append, length-replicate, drop-more, drop-all, replicate-more}
+use Rattle.std.proofs.shelf.Lists.{append-assoc, append-nil, length-append, drop-more, drop-all, replicate-more}
 use Rattle.std.proofs.shelf.Tests.{cond-true, cond-false, le-leb, lt-leb}
 use Rattle.script.specs.Forms.{longest}
-use Rattle.script.specs.Runs.{run-of, run-moves, run-before, runs-of, not-too-long, moves-of}
+use Rattle.script.specs.Runs.{run-of, run-moves, run-before, runs-of, not-too-long}
 use Rattle.script.specs.declared.check.Run.{Run}
 
 -- one number more

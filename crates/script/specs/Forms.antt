@@ -19,6 +19,16 @@ widest = 4294967295
 abbrev pub longest : ℕ
 longest = 1048576
 
+-- the limits of two numbers of 32 bits, of a row's numbers and of a line's
+abbrev pub two-wide : List ℕ
+two-wide = widest ∷ widest ∷ []
+
+abbrev pub row-limits : List ℕ
+row-limits = 3 ∷ 255 ∷ 255 ∷ 255 ∷ 255 ∷ widest ∷ []
+
+abbrev pub line-limits : List ℕ
+line-limits = 255 ∷ 255 ∷ 255 ∷ widest ∷ []
+
 -- a call with no words after its name
 abbrev pub alone-call : Call → List (List ℕ) → Option Call
 alone-call c [] = Some c
@@ -41,7 +51,7 @@ kind-call (w ∷ v ∷ ws) = None
 
 -- size MODES MOMENTS
 abbrev pub size-call : List (List ℕ) → Option Call
-size-call ws = mapped (λ ns. size (getD ns 0 0) (getD ns 1 0)) (numbers-of (widest ∷ widest ∷ []) ws)
+size-call ws = mapped (λ ns. size (getD ns 0 0) (getD ns 1 0)) (numbers-of two-wide ws)
 
 -- row KIND FROM TO LABEL ACTION COST
 abbrev pub row-from : List ℕ → Call
@@ -56,21 +66,21 @@ row-from ns =
     }
 
 abbrev pub row-call : List (List ℕ) → Option Call
-row-call ws = mapped row-from (numbers-of (3 ∷ 255 ∷ 255 ∷ 255 ∷ 255 ∷ widest ∷ []) ws)
+row-call ws = mapped row-from (numbers-of row-limits ws)
 
 -- line FROM TO EVENT COST
 abbrev pub line-from : List ℕ → Call
 line-from ns = line record { from = getD ns 0 0; to = getD ns 1 0; event = getD ns 2 0; cost = getD ns 3 0 }
 
 abbrev pub line-call : List (List ℕ) → Option Call
-line-call ws = mapped line-from (numbers-of (255 ∷ 255 ∷ 255 ∷ widest ∷ []) ws)
+line-call ws = mapped line-from (numbers-of line-limits ws)
 
 -- reprice-row I COST, and reprice-line I COST
 abbrev pub reprice-row-call : List (List ℕ) → Option Call
-reprice-row-call ws = mapped (λ ns. reprice-row (getD ns 0 0) (getD ns 1 0)) (numbers-of (widest ∷ widest ∷ []) ws)
+reprice-row-call ws = mapped (λ ns. reprice-row (getD ns 0 0) (getD ns 1 0)) (numbers-of two-wide ws)
 
 abbrev pub reprice-line-call : List (List ℕ) → Option Call
-reprice-line-call ws = mapped (λ ns. reprice-line (getD ns 0 0) (getD ns 1 0)) (numbers-of (widest ∷ widest ∷ []) ws)
+reprice-line-call ws = mapped (λ ns. reprice-line (getD ns 0 0) (getD ns 1 0)) (numbers-of two-wide ws)
 
 -- load HEX; no word is an empty file
 abbrev pub file-word : List (List ℕ) → Option (List ℕ)
@@ -91,4 +101,4 @@ path-call ws = mapped (λ ns. path (getD ns 0 0)) (numbers-of (longest ∷ []) w
 
 -- between S Q
 abbrev pub between-call : List (List ℕ) → Option Call
-between-call ws = mapped (λ ns. between (getD ns 0 0) (getD ns 1 0)) (numbers-of (widest ∷ widest ∷ []) ws)
+between-call ws = mapped (λ ns. between (getD ns 0 0) (getD ns 1 0)) (numbers-of two-wide ws)

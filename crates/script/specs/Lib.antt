@@ -3,3 +3,4 @@ pub mod Names
 pub mod Forms
 pub mod Runs
 pub mod Script
+pub mod Written

@@ -5,14 +5,13 @@ ghost use Rattle.std.specs.Of.Vec.{vec-items};
 ghost use Rattle.std.specs.Options.{mapped};
 ghost use Rattle.std.specs.Vec.{made};
 ghost use Rattle.script.specs.Runs.{run-of, run-moves, moves-of};
+use crate::limits::LONGEST;
+use crate::limits::WIDEST;
 use std::alloc::AllocError;
 use std::alloc::Global;
 use words::hex_u16;
 use words::number;
 use words::split_once;
-
-// The largest length of a list.
-const LONGEST: usize = 1_048_576;
 
 // A number so many times.
 #[derive(Clone, Copy)]
@@ -28,7 +27,7 @@ fn read_run(word: &[u8]) -> Option<Run>
     match split_once(word, b"*") {
         Some((hex, times)) => Some(Run {
             number: hex_u16(hex)?,
-            times: number(times, 4_294_967_295)? as u32,
+            times: number(times, WIDEST)? as u32,
         }),
         None => Some(Run {
             number: hex_u16(word)?,

@@ -11,16 +11,13 @@ use crate::check::moves;
 use crate::command::Command;
 use crate::command::LineWords;
 use crate::command::RowWords;
+use crate::limits::LONGEST;
+use crate::limits::WIDEST;
 use crate::name::Name;
 use std::alloc::AllocError;
 use std::alloc::Global;
 use words::hex_byte_pairs;
 use words::numbers;
-
-// The largest number of 32 bits, and the largest length of a buffer.
-const WIDEST: u64 = 4_294_967_295;
-
-const LONGEST: u64 = 1_048_576;
 
 // The call, where no words follow its name.
 fn alone(command: Command, words: &[&[u8]]) -> Option<Command>
@@ -136,7 +133,7 @@ fn load(heap: Global, words: &[&[u8]]) -> Result<Option<Command>, AllocError>
 fn path(words: &[&[u8]]) -> Option<Command>
     ensures { λ r. ⌜ mapped command-of r ≡ path-call (map now (now (words .entry))) ⌝ }
 {
-    let [length] = numbers(words, [LONGEST])?;
+    let [length] = numbers(words, [LONGEST as u64])?;
     Some(Command::Path(length as usize))
 }
 

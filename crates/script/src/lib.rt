@@ -2,6 +2,7 @@
 mod check;
 mod command;
 mod forms;
+mod limits;
 mod name;
 mod running;
 mod script;

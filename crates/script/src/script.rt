@@ -3,6 +3,7 @@ ghost use mathlib.Core.List.{map};
 ghost use mathlib.Core.Path.{_≡_};
 ghost use Rattle.std.specs.Vec.{made};
 ghost use Rattle.script.specs.Script.{script-part-of, is-comment, words-parsed, line-parsed, parsed-of};
+ghost use Rattle.script.specs.Written.{Reads-written};
 use crate::command::Command;
 use crate::forms::call;
 use crate::name::named;
@@ -65,7 +66,8 @@ fn parse_words(heap: Global, words: &[&[u8]]) -> Result<Parsed, AllocError>
 
 // What the line says.
 pub fn parse(heap: Global, line: &[u8]) -> Result<Parsed, AllocError>
-    ensures { λ r. ⌜ made r (λ p. parsed-of p ≡ line-parsed (now (line .entry))) ⌝ }
+    ensures made { λ r. ⌜ made r (λ p. parsed-of p ≡ line-parsed (now (line .entry))) ⌝ }
+    ensures reads_written { λ _. ⌜ Reads-written ⌝ }
 {
     let words = pieces::<Spacing>(heap, script_part(line))?;
     parse_words(heap, words.as_slice())
