@@ -14,7 +14,7 @@ points_join a b = cond (nat_lt 4294967294 (a + b)) 4294967295 (a + b)
 abbrev pub points : Meaning
 points = record {
   is_cost = every;
-  no_dearer = leb;
+  no_dearer = nat_le;
   join = points_join;
   free = 0;
   worst = 4294967295;
@@ -26,7 +26,7 @@ points = record {
 abbrev pub severity : Meaning
 severity = record {
   is_cost = every;
-  no_dearer = leb;
+  no_dearer = nat_le;
   join = max;
   free = 0;
   worst = 4294967295;
@@ -55,7 +55,7 @@ rank_join a b =
 abbrev pub rank : Meaning
 rank = record {
   is_cost = rank_cost;
-  no_dearer = leb;
+  no_dearer = nat_le;
   join = rank_join;
   free = 0;
   worst = 4294967295;

@@ -11,11 +11,11 @@ worked = record { full_seconds = refl; no_rank = refl; last_rank = refl; too_man
 pub loop-i-init : goal.loop-i-init
 loop-i-init g c = (omega arith, ap (λ a. joined_onto g.K.Kind.meaning a c.args.xs.now) c.free-total.ensures, refl)
 
-pub returns-then-not-is-cost : goal.returns-then-not-is-cost
-returns-then-not-is-cost g c =
+pub returns-then-not-is_cost : goal.returns-then-not-is_cost
+returns-then-not-is_cost g c =
     let m = g.K.Kind.meaning in
     let xs = c.args.xs.now in
-    let here = no_cost_here m xs c.loop-i.i c.loop-i-test.true (sym c.if-not-is-cost.ensures) in
+    let here = no_cost_here m xs c.loop-i.i c.loop-i-test.true (sym c.if-not-is_cost.ensures) in
     record {
       answer = sym (ap (λ o. unless_no_cost o (joined m xs)) (sym c.loop-i.invariant.2 ∙ here));
       cut = cut_anywhere g.met.K.Kind.lawful;
@@ -29,7 +29,7 @@ loop-i-preserved g c =
     let i = c.loop-i.i in
     let within = c.loop-i-test.true in
     let onto = onto_next m xs i within c.loop-i.total in
-    let next = no_cost_next m xs i within (sym c.if-not-is-cost.ensures) in (
+    let next = no_cost_next m xs i within (sym c.if-not-is_cost.ensures) in (
       omega arith,
       rw (add-one, c.join-total.ensures) (onto ∙ c.loop-i.invariant.1),
       rw add-one (next ∙ c.loop-i.invariant.2),
