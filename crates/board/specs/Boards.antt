@@ -1,5 +1,6 @@
 -- The content and the records of a settled board.
 use Rattle.std.specs.Prelude.{ℕ, List, [], ◌∷◌, ◌++◌, Some, None, Option}
+use Rattle.costs.specs.declared.kind.Kind.{Ghosts}
 use Rattle.board.specs.declared.log.Log.{Log}
 use Rattle.board.specs.declared.reading.Reading.{Reading}
 use Rattle.board.specs.declared.settled.Settled.{Settled}
@@ -10,11 +11,11 @@ use Rattle.board.specs.Logs.{records, nth_record}
 use Rattle.board.specs.Computing.{ReadingFound}
 
 -- the content of a settled board
-abbrev pub settled_content : {K : Type 0} → Settled K → Content
+abbrev pub settled_content : {K : Type 0} {k : Ghosts K} → Settled K k → Content
 settled_content s = held s.tables
 
 -- its records, the newest first
-abbrev pub settled_records : {K : Type 0} → Settled K → List Record
+abbrev pub settled_records : {K : Type 0} {k : Ghosts K} → Settled K k → List Record
 settled_records s = records s.log
 
 -- the record of an entry that was found by its number

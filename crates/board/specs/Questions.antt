@@ -86,7 +86,7 @@ pub record Written (m : Meaning) (c : Content) (log : List Record) (buffer : Lis
   pub checked : check_answer m c (map packed reading) ≡ Ok cost
 
 -- the recorded reading is longer than the buffer or than 65,535 moves
-pub record TooLong (m : Meaning) (c : Content) (log : List Record) (buffer : List ℕ) : Type 0 where
+pub record ReadingTooLong (m : Meaning) (c : Content) (log : List Record) (buffer : List ℕ) : Type 0 where
   pub cost : ℕ
   pub reading : List Move
   pub recorded : RecordedReading m c log cost reading
@@ -94,7 +94,7 @@ pub record TooLong (m : Meaning) (c : Content) (log : List Record) (buffer : Lis
 
 -- why path is declined
 abbrev pub PathDeclined : Meaning → Content → List Record → List ℕ → Refusal → Type 0
-PathDeclined m c log buffer e = ((e ≡ NoReading) × NoneBelow m c) ⊎ ((e ≡ TooLong) × TooLong m c log buffer)
+PathDeclined m c log buffer e = ((e ≡ NoReading) × NoneBelow m c) ⊎ ((e ≡ TooLong) × ReadingTooLong m c log buffer)
 
 -- what path's answer and the buffer after it mean: the cheapest complete reading is written, or the buffer is as it was
 abbrev pub PathMeans : Meaning → Content → List Record → List ℕ → Result ℕ Refusal → List ℕ → Type 0

@@ -7,8 +7,8 @@ use crate::kind::Kind;
 
 // The numbers joined from first to last (free where there are none), or the index of the first that is no cost.
 pub fn join_all<K: Kind>(xs: &[u32]) -> Result<u32, usize>
-    ensures answer { result ≡ join_answer K.Kind.meaning xs.now }
-    ensures cut { CutAnywhere K.Kind.meaning }
+    ensures answer { result ≡ join_answer K.meaning xs.now }
+    ensures cut { CutAnywhere K.meaning }
     ensures examples { JoiningExamples }
 {
     let mut total = K::free();

@@ -25,7 +25,7 @@ pub(crate) fn bits(word: u64, below: u32, width: u32) -> u64
 
 // The header that four bytes are: letter (8), M (7), T (7), zeros (2), trust (8).
 pub(crate) fn read_header<K: Kind>(word: u32) -> Result<Header, FileRefusal>
-    ensures { result ≡ header_read meaning word }
+    ensures { result ≡ header_read K.meaning word }
 {
     let word = u64::from(word);
     if bits(word, 24, 8) as u8 as char != K::letter() {

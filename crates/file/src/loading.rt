@@ -34,7 +34,7 @@ pub trait Load {
 }
 
 impl<K: Kind> Load for Draft<K> {
-    ghost costs = { K.Kind.meaning };
+    ghost costs = { K.meaning };
 
     ghost content = { λ d. draft_content d };
 
@@ -45,9 +45,9 @@ impl<K: Kind> Load for Draft<K> {
 
 // Fills a new draft from the file; where a part is refused, the draft is new again.
 fn load_draft<'a, K: Kind>(draft: &mut Draft<K>, bytes: &'a [u8]) -> Result<Note<'a>, LoadFault>
-    ensures answer { answered result ≡ load_answer meaning bytes.now }
-    ensures after { draft_content draft.new ≡ load_after meaning bytes.now }
-    ensures sound { Sound meaning (draft_content draft.new) }
+    ensures answer { answered result ≡ load_answer K.meaning bytes.now }
+    ensures after { draft_content draft.new ≡ load_after K.meaning bytes.now }
+    ensures sound { Sound K.meaning (draft_content draft.new) }
 {
     *draft = Draft::new();
     match fill(draft, bytes) {
@@ -62,7 +62,7 @@ fn load_draft<'a, K: Kind>(draft: &mut Draft<K>, bytes: &'a [u8]) -> Result<Note
 // Sizes the draft as the header says.
 fn size_draft<K: Kind>(draft: &mut Draft<K>, header: Header) -> Result<(), FileRefusal>
     ensures after { told result (draft_content draft.new) ≡ sized header (draft_content draft.old) }
-    ensures kept { Sound meaning (draft_content draft.old) → Sound meaning (draft_content draft.new) }
+    ensures kept { Sound K.meaning (draft_content draft.old) → Sound K.meaning (draft_content draft.new) }
 {
     match draft.size(header.modes as u32, header.moments as u32) {
         Ok(()) => Ok(()),
@@ -72,8 +72,8 @@ fn size_draft<K: Kind>(draft: &mut Draft<K>, header: Header) -> Result<(), FileR
 
 // Sizes and fills an empty draft from the file, until a part of it is refused.
 fn fill<'a, K: Kind>(draft: &mut Draft<K>, bytes: &'a [u8]) -> Result<Note<'a>, LoadFault>
-    ensures after { beside result (draft_content draft.new) ≡ filled meaning bytes.now (draft_content draft.old) }
-    ensures kept { Sound meaning (draft_content draft.old) → Sound meaning (draft_content draft.new) }
+    ensures after { beside result (draft_content draft.new) ≡ filled K.meaning bytes.now (draft_content draft.old) }
+    ensures kept { Sound K.meaning (draft_content draft.old) → Sound K.meaning (draft_content draft.new) }
 {
     let [a, b, c, d, rest @ ..] = bytes else {
         return Err(LoadFault {

@@ -31,8 +31,8 @@ fn word_and_rest(bytes: &[u8]) -> Option<(u64, &[u8])>
 
 // Adds the row that the record is.
 fn add_row<K: Kind>(draft: &mut Draft<K>, word: u64) -> Result<(), FileRefusal>
-    ensures after { told result (draft_content draft.new) ≡ row_record meaning (draft_content draft.old) word }
-    ensures kept { Sound meaning (draft_content draft.old) → Sound meaning (draft_content draft.new) }
+    ensures after { told result (draft_content draft.new) ≡ row_record K.meaning (draft_content draft.old) word }
+    ensures kept { Sound K.meaning (draft_content draft.old) → Sound K.meaning (draft_content draft.new) }
 {
     let row = read_row(word)?;
     match draft.add_row(row) {
@@ -43,8 +43,8 @@ fn add_row<K: Kind>(draft: &mut Draft<K>, word: u64) -> Result<(), FileRefusal>
 
 // Adds the line that the record is, its cost as trust has it.
 fn add_line<K: Kind>(draft: &mut Draft<K>, trust: u8, word: u64) -> Result<(), FileRefusal>
-    ensures after { told result (draft_content draft.new) ≡ line_record meaning trust (draft_content draft.old) word }
-    ensures kept { Sound meaning (draft_content draft.old) → Sound meaning (draft_content draft.new) }
+    ensures after { told result (draft_content draft.new) ≡ line_record K.meaning trust (draft_content draft.old) word }
+    ensures kept { Sound K.meaning (draft_content draft.old) → Sound K.meaning (draft_content draft.new) }
 {
     let line = read_line(word)?;
     let cost = trusted_cost::<K>(line.cost, trust);
@@ -60,8 +60,8 @@ fn add_record<K: Kind>(
     kind: RecordKind,
     word: u64,
 ) -> Result<(), FileRefusal>
-    ensures after { told result (draft_content draft.new) ≡ record_added meaning trust kind (draft_content draft.old) word }
-    ensures kept { Sound meaning (draft_content draft.old) → Sound meaning (draft_content draft.new) }
+    ensures after { told result (draft_content draft.new) ≡ record_added K.meaning trust kind (draft_content draft.old) word }
+    ensures kept { Sound K.meaning (draft_content draft.old) → Sound K.meaning (draft_content draft.new) }
 {
     match kind {
         RecordKind::Row => add_row(draft, word),
@@ -78,8 +78,8 @@ pub(crate) fn add_records<K: Kind>(
     count: u16,
 ) -> Result<(), LoadFault>
     requires { part.place + length part.bytes.now < 2 ^ 64 }
-    ensures after { told result (draft_content draft.new) ≡ records meaning trust kind count part.entry.bytes.now part.entry.place (draft_content draft.old) }
-    ensures kept { Sound meaning (draft_content draft.old) → Sound meaning (draft_content draft.new) }
+    ensures after { told result (draft_content draft.new) ≡ records K.meaning trust kind count part.entry.bytes.now part.entry.place (draft_content draft.old) }
+    ensures kept { Sound K.meaning (draft_content draft.old) → Sound K.meaning (draft_content draft.new) }
 {
     let mut rest = part.bytes;
     let mut place = part.place;

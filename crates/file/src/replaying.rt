@@ -10,8 +10,8 @@ use costs::Kind;
 
 // The board after all these calls on a new one.
 pub fn replay<K: Kind>(calls: &[Call<'_>]) -> Board<K>
-    ensures holds { Holds meaning calls.now result }
-    ensures promise { MainPromise meaning calls.now }
+    ensures holds { Holds K.meaning calls.now result }
+    ensures promise { MainPromise K.meaning calls.now }
 {
     let mut board = Board::Drafted(Draft::new());
     let mut buffer = [0];

@@ -22,8 +22,8 @@ fn add_section<'a, K: Kind>(
     note: Part<'a>,
 ) -> Result<Part<'a>, LoadFault>
     requires { Within (found_section section) }
-    ensures after { beside result (draft_content draft.new) ≡ section_added meaning trust (found_section section.entry) (loaded_as (draft_content draft.old) (piece note.entry)) }
-    ensures kept { Sound meaning (draft_content draft.old) → Sound meaning (draft_content draft.new) }
+    ensures after { beside result (draft_content draft.new) ≡ section_added K.meaning trust (found_section section.entry) (loaded_as (draft_content draft.old) (piece note.entry)) }
+    ensures kept { Sound K.meaning (draft_content draft.old) → Sound K.meaning (draft_content draft.new) }
 {
     match section {
         Section::Rows(part, count) => {
@@ -53,8 +53,8 @@ pub(crate) fn add_sections<'a, K: Kind>(
     reader: &mut Reader<'a>,
     none: Part<'a>,
 ) -> Result<Part<'a>, LoadFault>
-    ensures after { beside result (draft_content draft.new) ≡ from_stage meaning trust reader.old.awaited (reading reader.old).left (loaded_as (draft_content draft.old) (piece none.entry)) }
-    ensures kept { Sound meaning (draft_content draft.old) → Sound meaning (draft_content draft.new) }
+    ensures after { beside result (draft_content draft.new) ≡ from_stage K.meaning trust reader.old.awaited (reading reader.old).left (loaded_as (draft_content draft.old) (piece none.entry)) }
+    ensures kept { Sound K.meaning (draft_content draft.old) → Sound K.meaning (draft_content draft.new) }
 {
     let mut note = none;
     while let Some(section) = reader.next()? {

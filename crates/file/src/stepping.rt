@@ -15,8 +15,8 @@ use costs::Kind;
 
 // A call on a draft, other than settling it.
 fn edit<'a, K: Kind>(draft: &mut Draft<K>, call: Call<'a>) -> Answer<'a>
-    ensures answer { heard result ≡ draft_answer meaning (draft_content draft.old) call.entry }
-    ensures after { draft_content draft.new ≡ edited meaning (draft_content draft.old) call.entry }
+    ensures answer { heard result ≡ draft_answer K.meaning (draft_content draft.old) call.entry }
+    ensures after { draft_content draft.new ≡ edited K.meaning (draft_content draft.old) call.entry }
 {
     match call {
         Call::Size(modes, moments) => Answer::Sized(draft.size(modes, moments)),
@@ -37,8 +37,8 @@ fn edit<'a, K: Kind>(draft: &mut Draft<K>, call: Call<'a>) -> Answer<'a>
 
 // A question to a settled board.
 fn ask<'a, K: Kind>(settled: &Settled<K>, call: Call<'_>, buffer: &mut [u16]) -> Answer<'a>
-    ensures answer { heard result ≡ settled_answer meaning (settled_content settled.now) (settled_records settled.now) call.entry buffer.old }
-    ensures after { buffer.new ≡ settled_buffer meaning (settled_content settled.now) (settled_records settled.now) call.entry buffer.old }
+    ensures answer { heard result ≡ settled_answer K.meaning (settled_content settled.now) (settled_records settled.now) call.entry buffer.old }
+    ensures after { buffer.new ≡ settled_buffer K.meaning (settled_content settled.now) (settled_records settled.now) call.entry buffer.old }
 {
     match call {
         Call::Cost => Answer::Cost(settled.cost()),
@@ -55,10 +55,10 @@ pub fn step<'a, K: Kind>(
     call: Call<'a>,
     buffer: &mut [u16],
 ) -> (Board<K>, Answer<'a>)
-    ensures state { state_of result.0 ≡ stepped meaning (state_of board) call.entry }
-    ensures answer { heard result.1 ≡ step_answer meaning (state_of board) (records_of board) call.entry buffer.old }
-    ensures after { buffer.new ≡ step_buffer meaning (state_of board) (records_of board) call.entry buffer.old }
-    ensures history { (calls : List Call) → Holds meaning calls board → Follows meaning calls call.entry buffer.old result.0 (heard result.1) buffer.new }
+    ensures state { state_of result.0 ≡ stepped K.meaning (state_of board) call.entry }
+    ensures answer { heard result.1 ≡ step_answer K.meaning (state_of board) (records_of board) call.entry buffer.old }
+    ensures after { buffer.new ≡ step_buffer K.meaning (state_of board) (records_of board) call.entry buffer.old }
+    ensures history { (calls : List Call) → Holds K.meaning calls board → Follows K.meaning calls call.entry buffer.old result.0 (heard result.1) buffer.new }
 {
     match board {
         Board::Drafted(mut draft) => match call {

@@ -6,7 +6,7 @@ use costs::Kind;
 
 // The cost as trust has it.
 pub(crate) fn trusted_cost<K: Kind>(cost: u32, trust: u8) -> u32
-    ensures { result ≡ trusted meaning trust cost }
+    ensures { result ≡ trusted K.meaning trust cost }
 {
     let worst = K::worst();
     if !K::scaled() || cost == worst {

@@ -72,7 +72,7 @@ fn numbers<'a>(heap: Global, words: &[&'a [u8]]) -> Result<Costs<'a>, AllocError
 // What the numbers make, joined, or the first word whose number is no cost.
 fn joined<'a, K: Kind>(words: &[&'a [u8]], numbers: &[u32]) -> Answer<'a>
     requires { length words.now ≡ length numbers.now }
-    ensures { answer_of result ≡ joined_answer K.Kind.meaning (map (λ x. x.now) words.now) numbers.now }
+    ensures { answer_of result ≡ joined_answer K.meaning (map (λ x. x.now) words.now) numbers.now }
 {
     match join_all::<K>(numbers) {
         Ok(total) => Answer::Total(K::letter(), total),

@@ -72,7 +72,7 @@ fn push_moves<K: Kind>(
 
 // What is printed of a settled board: cost and moves, or why there are none.
 fn reading<K: Kind>(heap: Global, settled: &Settled<K>) -> Result<Vec<u8>, AllocError>
-    ensures { IfOk result (λ v. v.items ≡ settled_lines meaning (settled_content settled.now) (settled_records settled.now)) }
+    ensures { IfOk result (λ v. v.items ≡ settled_lines K.meaning (settled_content settled.now) (settled_records settled.now)) }
 {
     let (cost, number) = match settled.cost() {
         Ok(answer) => answer,
@@ -92,7 +92,7 @@ fn reading<K: Kind>(heap: Global, settled: &Settled<K>) -> Result<Vec<u8>, Alloc
 
 // What is printed of a file under a kind.
 fn under<K: Kind>(heap: Global, bytes: &[u8]) -> Result<Vec<u8>, AllocError>
-    ensures { IfOk result (λ v. v.items ≡ lines_under meaning bytes.now) }
+    ensures { IfOk result (λ v. v.items ≡ lines_under K.meaning bytes.now) }
 {
     let mut draft = Draft::<K>::new();
     match draft.load(bytes) {

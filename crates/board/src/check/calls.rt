@@ -12,8 +12,8 @@ use costs::Kind;
 impl Tables {
     // The cost of the complete reading that the moves are, or the first faulty move.
     pub(crate) fn check<K: Kind>(&self, moves: &[u16]) -> Result<u32, Fault>
-        ensures answer { result ≡ check_answer meaning (held self.now) moves.now }
-        ensures readings { AcceptsReadings meaning (held self.now) moves.now result }
+        ensures answer { result ≡ check_answer K.meaning (held self.now) moves.now }
+        ensures readings { AcceptsReadings K.meaning (held self.now) moves.now result }
     {
         let mut checker = Checker::new::<K>();
         for (index, number) in moves.iter().enumerate() {

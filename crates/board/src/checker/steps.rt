@@ -67,7 +67,7 @@ impl Brackets {
 impl Checker {
     // At place 0, with no bracket open and nothing joined.
     pub(crate) fn new<K: Kind>() -> Checker
-        ensures { progress_of result ≡ start meaning }
+        ensures { progress_of result ≡ start K.meaning }
     {
         Checker {
             place: (0, 0),
@@ -79,7 +79,7 @@ impl Checker {
 
     // Goes on by what a move names.
     fn take_named<K: Kind>(&mut self, moments: u8, named: &Named) -> Result<(), Refusal>
-        ensures { left result (progress_of self.new) ≡ take_named meaning moments (progress_of self.old) (Some named.now) }
+        ensures { left result (progress_of self.new) ≡ take_named K.meaning moments (progress_of self.old) (Some named.now) }
     {
         if self.ended || !named.starts_at(moments, self.place) {
             return Err(Refusal::NotNext);
@@ -94,7 +94,7 @@ impl Checker {
 
     // Goes on by one packed move.
     pub(crate) fn take_move<K: Kind>(&mut self, tables: &Tables, number: u16) -> Result<(), Refusal>
-        ensures { left result (progress_of self.new) ≡ take_move meaning (held tables.now) (progress_of self.old) number }
+        ensures { left result (progress_of self.new) ≡ take_move K.meaning (held tables.now) (progress_of self.old) number }
     {
         let Some(v) = Move::unpack(number) else {
             return Err(Refusal::BadMove);

@@ -17,7 +17,7 @@ impl<K: Kind> Draft<K> {
     // A new board: one mode, one moment, nothing on it.
     pub fn new() -> Draft<K>
         ensures content { draft_content result ≡ new }
-        ensures sound { Sound meaning (draft_content result) }
+        ensures sound { Sound K.meaning (draft_content result) }
         ensures promises { BoardPromises }
     {
         Draft {
@@ -30,7 +30,7 @@ impl<K: Kind> Draft<K> {
     pub fn size(&mut self, modes: u32, moments: u32) -> Result<(), Refusal>
         ensures answer { result ≡ answer (size_fault (draft_content self.old) modes moments) tt }
         ensures after { draft_content self.new ≡ size_after (draft_content self.old) modes moments }
-        ensures kept { Sound meaning (draft_content self.old) → Sound meaning (draft_content self.new) }
+        ensures kept { Sound K.meaning (draft_content self.old) → Sound K.meaning (draft_content self.new) }
     {
         if self.tables.row_count() > 0 || self.tables.line_count() > 0 {
             return Err(Refusal::NotEmpty);
@@ -45,9 +45,9 @@ impl<K: Kind> Draft<K> {
 
     // Puts the row last, and answers its number.
     pub fn add_row(&mut self, row: Row) -> Result<usize, Refusal>
-        ensures answer { result ≡ answer (row_fault meaning (draft_content self.old) row) (length (draft_content self.old).rows) }
-        ensures after { draft_content self.new ≡ row_after meaning (draft_content self.old) row }
-        ensures kept { Sound meaning (draft_content self.old) → Sound meaning (draft_content self.new) }
+        ensures answer { result ≡ answer (row_fault K.meaning (draft_content self.old) row) (length (draft_content self.old).rows) }
+        ensures after { draft_content self.new ≡ row_after K.meaning (draft_content self.old) row }
+        ensures kept { Sound K.meaning (draft_content self.old) → Sound K.meaning (draft_content self.new) }
     {
         let n = self.tables.row_count();
         if n >= 128 {
@@ -69,9 +69,9 @@ impl<K: Kind> Draft<K> {
 
     // Puts the line last, and answers its number.
     pub fn add_line(&mut self, line: Line) -> Result<usize, Refusal>
-        ensures answer { result ≡ answer (line_fault meaning (draft_content self.old) line) (length (draft_content self.old).lines) }
-        ensures after { draft_content self.new ≡ line_after meaning (draft_content self.old) line }
-        ensures kept { Sound meaning (draft_content self.old) → Sound meaning (draft_content self.new) }
+        ensures answer { result ≡ answer (line_fault K.meaning (draft_content self.old) line) (length (draft_content self.old).lines) }
+        ensures after { draft_content self.new ≡ line_after K.meaning (draft_content self.old) line }
+        ensures kept { Sound K.meaning (draft_content self.old) → Sound K.meaning (draft_content self.new) }
     {
         let n = self.tables.line_count();
         if n >= 128 {
@@ -93,9 +93,9 @@ impl<K: Kind> Draft<K> {
 
     // Sets the cost of one row, and of no other.
     pub fn reprice_row(&mut self, n: usize, cost: u32) -> Result<(), Refusal>
-        ensures answer { result ≡ answer (reprice_fault meaning (draft_content self.old).rows n cost) tt }
-        ensures after { draft_content self.new ≡ reprice_row_after meaning (draft_content self.old) n cost }
-        ensures kept { Sound meaning (draft_content self.old) → Sound meaning (draft_content self.new) }
+        ensures answer { result ≡ answer (reprice_fault K.meaning (draft_content self.old).rows n cost) tt }
+        ensures after { draft_content self.new ≡ reprice_row_after K.meaning (draft_content self.old) n cost }
+        ensures kept { Sound K.meaning (draft_content self.old) → Sound K.meaning (draft_content self.new) }
     {
         if n >= self.tables.row_count() {
             return Err(Refusal::NoSuch);
@@ -109,9 +109,9 @@ impl<K: Kind> Draft<K> {
 
     // Sets the cost of one line, and of no other.
     pub fn reprice_line(&mut self, n: usize, cost: u32) -> Result<(), Refusal>
-        ensures answer { result ≡ answer (reprice_fault meaning (draft_content self.old).lines n cost) tt }
-        ensures after { draft_content self.new ≡ reprice_line_after meaning (draft_content self.old) n cost }
-        ensures kept { Sound meaning (draft_content self.old) → Sound meaning (draft_content self.new) }
+        ensures answer { result ≡ answer (reprice_fault K.meaning (draft_content self.old).lines n cost) tt }
+        ensures after { draft_content self.new ≡ reprice_line_after K.meaning (draft_content self.old) n cost }
+        ensures kept { Sound K.meaning (draft_content self.old) → Sound K.meaning (draft_content self.new) }
     {
         if n >= self.tables.line_count() {
             return Err(Refusal::NoSuch);
@@ -127,7 +127,7 @@ impl<K: Kind> Draft<K> {
     pub fn clear_lines(&mut self) -> usize
         ensures answer { result ≡ length (draft_content self.old).lines }
         ensures after { draft_content self.new ≡ without_lines (draft_content self.old) }
-        ensures kept { Sound meaning (draft_content self.old) → Sound meaning (draft_content self.new) }
+        ensures kept { Sound K.meaning (draft_content self.old) → Sound K.meaning (draft_content self.new) }
     {
         self.tables.clear_lines()
     }

@@ -60,7 +60,7 @@ impl Named {
 
     // Where it leads from the place, at what cost, and what it does to the brackets.
     pub(crate) fn leads<K: Kind>(&self, place: Place) -> Arrival
-        ensures { result ≡ leads meaning self.now place }
+        ensures { result ≡ leads K.meaning self.now place }
     {
         match self {
             Named::Alone(row) => Arrival {
@@ -107,7 +107,7 @@ impl Tables {
     }
     // Where the move leads from the place, if it starts there.
     pub(crate) fn arrival<K: Kind>(&self, v: Move, place: Place) -> Option<Arrival>
-        ensures { result ≡ arrival_on meaning (held self.now) v place }
+        ensures { result ≡ arrival_on K.meaning (held self.now) v place }
     {
         let Some(named) = self.named(v) else {
             return None;

@@ -19,7 +19,7 @@ impl<K: Kind> Settled<K> {
     // The recorded cost from the place numbered `from` to the place numbered `to`.
     pub fn between(&self, from: usize, to: usize) -> Result<u32, Refusal>
         ensures answer { result ≡ between_answer (settled_content self.now) (settled_records self.now) from to }
-        ensures means { Sound meaning (settled_content self.now) → SettledLog meaning (settled_content self.now) (settled_records self.now) → BetweenMeans meaning (settled_content self.now) from to result }
+        ensures means { Sound K.meaning (settled_content self.now) → SettledLog K.meaning (settled_content self.now) (settled_records self.now) → BetweenMeans K.meaning (settled_content self.now) from to result }
     {
         let places = self.tables.modes as usize * self.tables.moments as usize;
         if from >= places || to >= places {
@@ -33,8 +33,8 @@ impl<K: Kind> Settled<K> {
 
     // The recorded reading's cost and number of moves, 65,536 where it has more.
     pub fn cost(&self) -> Result<(u32, u32), Refusal>
-        ensures answer { result ≡ cost_answer meaning (settled_content self.now) (settled_records self.now) }
-        ensures means { Sound meaning (settled_content self.now) → SettledLog meaning (settled_content self.now) (settled_records self.now) → CostMeans meaning (settled_content self.now) (settled_records self.now) result }
+        ensures answer { result ≡ cost_answer K.meaning (settled_content self.now) (settled_records self.now) }
+        ensures means { Sound K.meaning (settled_content self.now) → SettledLog K.meaning (settled_content self.now) (settled_records self.now) → CostMeans K.meaning (settled_content self.now) (settled_records self.now) result }
     {
         match self.recorded() {
             Some(r) => Ok((r.cost, (self.log.lengths[r.entry] + 1).min(65536))),
@@ -44,9 +44,9 @@ impl<K: Kind> Settled<K> {
 
     // Writes the recorded reading's packed moves to the front of the buffer, and answers how many.
     pub fn path(&self, buffer: &mut [u16]) -> Result<usize, Refusal>
-        ensures answer { result ≡ path_answer meaning (settled_content self.now) (settled_records self.now) buffer.old }
-        ensures after { buffer.new ≡ path_after meaning (settled_content self.now) (settled_records self.now) buffer.old }
-        ensures means { Sound meaning (settled_content self.now) → SettledLog meaning (settled_content self.now) (settled_records self.now) → PathMeans meaning (settled_content self.now) (settled_records self.now) buffer.old result buffer.new }
+        ensures answer { result ≡ path_answer K.meaning (settled_content self.now) (settled_records self.now) buffer.old }
+        ensures after { buffer.new ≡ path_after K.meaning (settled_content self.now) (settled_records self.now) buffer.old }
+        ensures means { Sound K.meaning (settled_content self.now) → SettledLog K.meaning (settled_content self.now) (settled_records self.now) → PathMeans K.meaning (settled_content self.now) (settled_records self.now) buffer.old result buffer.new }
     {
         let Some(r) = self.recorded() else {
             return Err(Refusal::NoReading);
@@ -66,8 +66,8 @@ impl<K: Kind> Settled<K> {
 
     // The cost of the complete reading that the packed moves are, or the first faulty move.
     pub fn check(&self, moves: &[u16]) -> Result<u32, Fault>
-        ensures answer { result ≡ check_answer meaning (settled_content self.now) moves.now }
-        ensures readings { AcceptsReadings meaning (settled_content self.now) moves.now result }
+        ensures answer { result ≡ check_answer K.meaning (settled_content self.now) moves.now }
+        ensures readings { AcceptsReadings K.meaning (settled_content self.now) moves.now result }
         ensures single { OneCost }
         ensures balance { GrammarIsStack }
         ensures moves { MovesComputed }

@@ -13,7 +13,7 @@ use costs::Kind;
 // The better of two readings, of which the first comes first where they tie; one that is no cheaper than the worst is
 // none.
 fn better<K: Kind>(a: Option<Reading>, b: Option<Reading>) -> Option<Reading>
-    ensures which { (l : Log) → reading_of l result ≡ better meaning (reading_of l a) (reading_of l b) }
+    ensures which { (l : Log) → reading_of l result ≡ better K.meaning (reading_of l a) (reading_of l b) }
     ensures within { (n t : ℕ) → ReadingIn n t a → ReadingIn n t b → ReadingIn n t result }
 {
     let Some(x) = b else {
@@ -41,7 +41,7 @@ impl<K: Kind> Settled<K> {
 
     // The reading by the row at the place: the record from place 0 to there, and that row, if it is an end row.
     fn reading_at(&self, row: u8, place: Place) -> Option<Reading>
-        ensures which { reading_of self.now.log result ≡ reading_at meaning (settled_content self.now) (settled_records self.now) row place }
+        ensures which { reading_of self.now.log result ≡ reading_at K.meaning (settled_content self.now) (settled_records self.now) row place }
         ensures within { ReadingIn self.now.log.count self.now.tables.row_count result }
     {
         let Some(h) = self.tables.arrival::<K>(Move { row, line: None }, place) else {
@@ -59,7 +59,7 @@ impl<K: Kind> Settled<K> {
 
     // The recorded reading, if there is one.
     pub(crate) fn recorded(&self) -> Option<Reading>
-        ensures which { reading_of self.now.log result ≡ found meaning (settled_content self.now) (settled_records self.now) }
+        ensures which { reading_of self.now.log result ≡ found K.meaning (settled_content self.now) (settled_records self.now) }
         ensures within { ReadingIn self.now.log.count self.now.tables.row_count result }
     {
         let mut best = None;

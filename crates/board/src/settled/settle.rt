@@ -18,11 +18,11 @@ impl<K: Kind> Draft<K> {
     // Settles the board: for every pair of places the record that the rounds reach.
     pub fn settle(self) -> Settled<K>
         ensures content { settled_content result ≡ draft_content self }
-        ensures records { Sound meaning (draft_content self) → SettledLog meaning (draft_content self) (settled_records result) }
-        ensures computed { Sound meaning (draft_content self) → settled_records result ≡ settled_log meaning (draft_content self) }
+        ensures records { Sound K.meaning (draft_content self) → SettledLog K.meaning (draft_content self) (settled_records result) }
+        ensures computed { Sound K.meaning (draft_content self) → settled_records result ≡ settled_log K.meaning (draft_content self) }
         ensures promises { BoardPromises }
         ensures example { SettlingExamples }
-        ensures cheapest { Sound meaning (draft_content self) → Cheapest meaning (draft_content self) (settled_records result) }
+        ensures cheapest { Sound K.meaning (draft_content self) → Cheapest K.meaning (draft_content self) (settled_records result) }
     {
         let tables = self.tables;
         let log = log_of::<K>(&tables);

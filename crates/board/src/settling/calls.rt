@@ -19,10 +19,10 @@ pub(crate) fn offer_close<K: Kind>(
     row: u8,
     best: &mut [Option<Entry>],
 )
-    requires ready { Ready meaning t.now log.now }
-    requires opened { Opened meaning t.now log.now o }
-    requires ok { BestKept meaning t.now log.now best.old }
-    ensures { Grows meaning t.now log.now best.old best.new (CallBy meaning t.now log.now o.front o.inside o.row row) }
+    requires ready { Ready K.meaning t.now log.now }
+    requires opened { Opened K.meaning t.now log.now o }
+    requires ok { BestKept K.meaning t.now log.now best.old }
+    ensures { Grows K.meaning t.now log.now best.old best.new (CallBy K.meaning t.now log.now o.front o.inside o.row row) }
 {
     let b = log.entries[o.inside];
     if let Some(h) = t.arrival::<K>(Move { row, line: None }, b.to) {
@@ -43,10 +43,10 @@ pub(crate) fn offer_close<K: Kind>(
 
 // Each call with this opening.
 pub(crate) fn offer_closes<K: Kind>(t: &Tables, log: &Log, o: Opening, best: &mut [Option<Entry>])
-    requires ready { Ready meaning t.now log.now }
-    requires opened { Opened meaning t.now log.now o }
-    requires ok { BestKept meaning t.now log.now best.old }
-    ensures { Grows meaning t.now log.now best.old best.new (CallsIn meaning t.now log.now o.front o.inside o.row) }
+    requires ready { Ready K.meaning t.now log.now }
+    requires opened { Opened K.meaning t.now log.now o }
+    requires ok { BestKept K.meaning t.now log.now best.old }
+    ensures { Grows K.meaning t.now log.now best.old best.new (CallsIn K.meaning t.now log.now o.front o.inside o.row) }
 {
     let rows = t.row_count as u8;
     for row in 0..rows {
@@ -56,7 +56,7 @@ pub(crate) fn offer_closes<K: Kind>(t: &Tables, log: &Log, o: Opening, best: &mu
 
 // Where an open row leads from a place.
 pub(crate) fn opens<K: Kind>(t: &Tables, row: u8, place: Place) -> Option<Way>
-    ensures { OpensWay meaning t.now row place result }
+    ensures { OpensWay K.meaning t.now row place result }
 {
     let Some(h) = t.arrival::<K>(Move { row, line: None }, place) else {
         return None;
@@ -79,10 +79,10 @@ pub(crate) fn offer_insides<K: Kind>(
     row: u8,
     best: &mut [Option<Entry>],
 )
-    requires ready { Ready meaning t.now log.now }
+    requires ready { Ready K.meaning t.now log.now }
     requires within { i < log.now.count }
-    requires ok { BestKept meaning t.now log.now best.old }
-    ensures { Grows meaning t.now log.now best.old best.new (CallsFrom meaning t.now log.now i row) }
+    requires ok { BestKept K.meaning t.now log.now best.old }
+    ensures { Grows K.meaning t.now log.now best.old best.new (CallsFrom K.meaning t.now log.now i row) }
 {
     let a = log.entries[i];
     let Some(w) = opens::<K>(t, row, a.to) else {
@@ -112,11 +112,11 @@ pub(crate) fn offer_fronts<K: Kind>(
     row: u8,
     best: &mut [Option<Entry>],
 )
-    requires ready { Ready meaning t.now log.now }
+    requires ready { Ready K.meaning t.now log.now }
     requires within { j < log.now.count }
     requires listed { row < t.now.row_count }
-    requires ok { BestKept meaning t.now log.now best.old }
-    ensures { Grows meaning t.now log.now best.old best.new (CallsAround meaning t.now log.now j row) }
+    requires ok { BestKept K.meaning t.now log.now best.old }
+    ensures { Grows K.meaning t.now log.now best.old best.new (CallsAround K.meaning t.now log.now j row) }
 {
     let b = log.entries[j];
     let front_end = (t.rows[row as usize].from, b.from.1);
@@ -143,10 +143,10 @@ pub(crate) fn offer_fronts<K: Kind>(
 
 // Each call that uses the entry i, as its front or as its inside.
 pub(crate) fn offer_calls<K: Kind>(t: &Tables, log: &Log, i: usize, best: &mut [Option<Entry>])
-    requires ready { Ready meaning t.now log.now }
+    requires ready { Ready K.meaning t.now log.now }
     requires within { i < log.now.count }
-    requires ok { BestKept meaning t.now log.now best.old }
-    ensures { Grows meaning t.now log.now best.old best.new (CallsWith meaning t.now log.now i) }
+    requires ok { BestKept K.meaning t.now log.now best.old }
+    ensures { Grows K.meaning t.now log.now best.old best.new (CallsWith K.meaning t.now log.now i) }
 {
     let rows = t.row_count as u8;
     for row in 0..rows {
@@ -157,10 +157,10 @@ pub(crate) fn offer_calls<K: Kind>(t: &Tables, log: &Log, i: usize, best: &mut [
 
 // Each step and call that uses the entry i.
 pub(crate) fn offer_all<K: Kind>(t: &Tables, log: &Log, i: usize, best: &mut [Option<Entry>])
-    requires ready { Ready meaning t.now log.now }
+    requires ready { Ready K.meaning t.now log.now }
     requires within { i < log.now.count }
-    requires ok { BestKept meaning t.now log.now best.old }
-    ensures { Grows meaning t.now log.now best.old best.new (Uses meaning t.now log.now i) }
+    requires ok { BestKept K.meaning t.now log.now best.old }
+    ensures { Grows K.meaning t.now log.now best.old best.new (Uses K.meaning t.now log.now i) }
 {
     offer_steps::<K>(t, log, i, best);
     offer_calls::<K>(t, log, i, best);

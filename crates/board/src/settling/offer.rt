@@ -51,7 +51,7 @@ fn first(a: Source, b: Source) -> bool
 
 // Whether f stays before the new candidate.
 fn keeps<K: Kind>(f: &Entry, new: &Entry) -> bool
-    ensures { result ≡ keeps? meaning (Some f.now) new.now }
+    ensures { result ≡ keeps? K.meaning (Some f.now) new.now }
 {
     if !K::no_dearer(new.cost, f.cost) {
         return true;
@@ -65,7 +65,7 @@ fn keeps<K: Kind>(f: &Entry, new: &Entry) -> bool
 // Puts the candidate at its pair where nothing stands there that goes before it.
 pub(crate) fn offer<K: Kind>(best: &mut [Option<Entry>], pair: usize, new: Entry)
     requires { pair < length best.old }
-    ensures { best.new ≡ offered meaning best.old pair new }
+    ensures { best.new ≡ offered K.meaning best.old pair new }
 {
     if let Some(f) = best[pair] {
         if keeps::<K>(&f, &new) {

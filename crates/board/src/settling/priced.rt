@@ -8,7 +8,7 @@ use costs::Kind;
 
 // True for every board that came from the calls.
 pub(crate) fn priced<K: Kind>(t: &Tables) -> bool
-    ensures { Tested result (CostsHeld meaning (held t.now)) }
+    ensures { Tested result (CostsHeld K.meaning (held t.now)) }
 {
     for i in 0..t.row_count {
         if !K::is_cost(t.rows[i].cost) {

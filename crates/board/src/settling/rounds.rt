@@ -18,11 +18,11 @@ use costs::Kind;
 
 // Settles an entry, and offers what uses it.
 fn settle_one<K: Kind>(t: &Tables, log: &mut Log, r: Entry, best: &mut [Option<Entry>])
-    requires state { State meaning t.now log.old best.old }
+    requires state { State K.meaning t.now log.old best.old }
     requires fresh { slice_index_or log.old.index (pair_of (held t.now) r.from r.to) ANone ≡ ANone }
-    requires kept { Kept meaning (held t.now) r }
+    requires kept { Kept K.meaning (held t.now) r }
     requires refers { Refers log.old.count r.source }
-    ensures state { State meaning t.now log.new best.new }
+    ensures state { State K.meaning t.now log.new best.new }
     ensures more { records log.new ≡ record_of (records log.old) r ∷ records log.old }
     ensures count { log.new.count ≡ log.old.count + 1 }
 {
@@ -47,8 +47,8 @@ fn standing(log: &Log, best: &[Option<Entry>], pair: usize) -> Option<Entry>
 // The least candidate below the worst for an unsettled pair, that of the first pair where some tie.
 fn least<K: Kind>(log: &Log, best: &[Option<Entry>]) -> Option<Entry>
     requires long { length best.now ≡ 4096 }
-    requires costs { CostsBest meaning best.now }
-    ensures { Chosen meaning (standing log.now best.now) 4096 result }
+    requires costs { CostsBest K.meaning best.now }
+    ensures { Chosen K.meaning (standing log.now best.now) 4096 result }
 {
     let mut limit = K::worst();
     let mut found = None;
@@ -65,10 +65,10 @@ fn least<K: Kind>(log: &Log, best: &[Option<Entry>]) -> Option<Entry>
 
 // Settles the diagonal: each place to itself, free.
 fn begin<K: Kind>(t: &Tables, log: &mut Log, best: &mut [Option<Entry>])
-    requires state { State meaning t.now log.old best.old }
+    requires state { State K.meaning t.now log.old best.old }
     requires empty { records log.old ≡ [] }
-    ensures state { State meaning t.now log.new best.new }
-    ensures diagonal { records log.new ≡ diagonal meaning (held t.now) }
+    ensures state { State K.meaning t.now log.new best.new }
+    ensures diagonal { records log.new ≡ diagonal K.meaning (held t.now) }
 {
     for mode in 0..t.modes {
         for moment in 0..t.moments {
@@ -87,9 +87,9 @@ fn begin<K: Kind>(t: &Tables, log: &mut Log, best: &mut [Option<Entry>])
 impl Settling {
     // The diagonal settled, and what uses it offered.
     fn new<K: Kind>(t: &Tables) -> Settling
-        requires { Sound meaning (held t.now) }
-        ensures state { State meaning t.now result.log result.best }
-        ensures reached { Reached meaning (held t.now) (records result.log) }
+        requires { Sound K.meaning (held t.now) }
+        ensures state { State K.meaning t.now result.log result.best }
+        ensures reached { Reached K.meaning (held t.now) (records result.log) }
     {
         let mut log = Log::new();
         let mut best = [None; 4096];
@@ -99,11 +99,11 @@ impl Settling {
 
     // Makes one round: settles the least candidate below the worst, or says that there is none.
     fn round<K: Kind>(&mut self, t: &Tables) -> bool
-        requires state { State meaning t.now self.old.log self.old.best }
-        requires reached { Reached meaning (held t.now) (records self.old.log) }
-        ensures state { State meaning t.now self.new.log self.new.best }
-        ensures reached { Reached meaning (held t.now) (records self.new.log) }
-        ensures made { RoundMade meaning (held t.now) self.old.log self.new.log result }
+        requires state { State K.meaning t.now self.old.log self.old.best }
+        requires reached { Reached K.meaning (held t.now) (records self.old.log) }
+        ensures state { State K.meaning t.now self.new.log self.new.best }
+        ensures reached { Reached K.meaning (held t.now) (records self.new.log) }
+        ensures made { RoundMade K.meaning (held t.now) self.old.log self.new.log result }
     {
         let Some(r) = least::<K>(&self.log, &self.best) else {
             return false;
@@ -115,9 +115,9 @@ impl Settling {
 
 // The settled log of the tables.
 fn settled_log<K: Kind>(t: &Tables) -> Log
-    requires { Sound meaning (held t.now) }
-    ensures book { Book meaning (held t.now) result }
-    ensures settled { Settled meaning (held t.now) (records result) }
+    requires { Sound K.meaning (held t.now) }
+    ensures book { Book K.meaning (held t.now) result }
+    ensures settled { Settled K.meaning (held t.now) (records result) }
 {
     let mut settling = Settling::new::<K>(t);
     'rounds: loop {
@@ -130,9 +130,9 @@ fn settled_log<K: Kind>(t: &Tables) -> Log
 
 // The settled log of the tables, where each cost that they hold is one of the kind; else an empty one.
 pub(crate) fn log_of<K: Kind>(t: &Tables) -> Log
-    ensures book { Book meaning (held t.now) result }
+    ensures book { Book K.meaning (held t.now) result }
     ensures small { SmallMoves result }
-    ensures settled { CostsHeld meaning (held t.now) → Settled meaning (held t.now) (records result) }
+    ensures settled { CostsHeld K.meaning (held t.now) → Settled K.meaning (held t.now) (records result) }
 {
     if !priced::<K>(t) {
         return Log::new();

@@ -17,10 +17,10 @@ pub(crate) fn offer_step<K: Kind>(
     v: Move,
     best: &mut [Option<Entry>],
 )
-    requires ready { Ready meaning t.now log.now }
+    requires ready { Ready K.meaning t.now log.now }
     requires within { i < log.now.count }
-    requires ok { BestKept meaning t.now log.now best.old }
-    ensures { Grows meaning t.now log.now best.old best.new (StepBy meaning t.now log.now i v) }
+    requires ok { BestKept K.meaning t.now log.now best.old }
+    ensures { Grows K.meaning t.now log.now best.old best.new (StepBy K.meaning t.now log.now i v) }
 {
     let a = log.entries[i];
     if let Some(h) = t.arrival::<K>(v, a.to) {
@@ -38,10 +38,10 @@ pub(crate) fn offer_step<K: Kind>(
 
 // All steps from the entry i.
 pub(crate) fn offer_steps<K: Kind>(t: &Tables, log: &Log, i: usize, best: &mut [Option<Entry>])
-    requires ready { Ready meaning t.now log.now }
+    requires ready { Ready K.meaning t.now log.now }
     requires within { i < log.now.count }
-    requires ok { BestKept meaning t.now log.now best.old }
-    ensures { Grows meaning t.now log.now best.old best.new (λ y. (v : AMove) × StepBy meaning t.now log.now i v y) }
+    requires ok { BestKept K.meaning t.now log.now best.old }
+    ensures { Grows K.meaning t.now log.now best.old best.new (λ y. (v : AMove) × StepBy K.meaning t.now log.now i v y) }
 {
     let rows = t.row_count as u8;
     let lines = t.line_count as u8;

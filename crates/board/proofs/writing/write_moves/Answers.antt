@@ -10,7 +10,7 @@ loop-k-preserved c =
     let s = c.requires.short in
     let r = c.requires.room in
     let h : c.loop-k.k < length (moves_at c.args.log.now c.args.i) = omega arith in
-    write_more packed (moves_at c.args.log.now c.args.i) c.args.out.now c.loop-k.out c.loop-k.k c.pack.result h (omega arith) c.loop-k.invariant (c.pack.ensures ∙ ap packed c.move-at.ensures)
+    write_more packed (moves_at c.args.log.now c.args.i) c.args.out.now c.loop-k.out c.loop-k.k c.pack.result h (omega arith) c.loop-k.invariant (c.pack.ensures ∙ ap packed c.move_at.ensures)
 
 pub returns : goal.returns
 returns c =

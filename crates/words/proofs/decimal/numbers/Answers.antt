@@ -12,16 +12,16 @@ returns-then-words g c =
 pub loop-i-init : goal.loop-i-init
 loop-i-init g c = (omega (arith, length-replicate {A = ℕ} g.row.N 0), λ k h. absurd (omega arith))
 
-pub returns-in-err-found : goal.returns-in-err-found
-returns-in-err-found g c =
+pub returns-in_err-found : goal.returns-in_err-found
+returns-in_err-found g c =
     let ws = c.args.words.now in
     let most = c.args.most in
     let i = c.loop-i.i in
     let here = get_or-map (λ x. x.now) ws i _ [] (omega arith) in
-    let none = ap (number_of (get_or most i 0)) here ∙ sym c.in-err-found.ensures.value in
+    let none = ap (number_of (get_or most i 0)) here ∙ sym c.in_err-found.ensures.value in
     record {
-      value = c.from-residual.ensures ∙ sym (number_stop most (map (λ x. x.now) ws) i (omega (arith, length-map ws (λ x. x.now))) (omega arith) none);
-      bound = rw c.from-residual.ensures tt;
+      value = c.from_residual.ensures ∙ sym (number_stop most (map (λ x. x.now) ws) i (omega (arith, length-map ws (λ x. x.now))) (omega arith) none);
+      bound = rw c.from_residual.ensures tt;
     }
 
 pub loop-i-preserved : goal.loop-i-preserved
@@ -29,12 +29,12 @@ loop-i-preserved g c =
     let ws = c.args.words.now in
     let most = c.args.most in
     let i = c.loop-i.i in
-    let n = c.in-ok-found.field-0 in
+    let n = c.in_ok-found.field-0 in
     let found = c.loop-i.found in (
       omega (arith, length-set found i n),
       below_more _ _
           (λ k h. let ne : k ≢ i = omega arith in rw (get_or-set_other found i k n 0 ne) (c.loop-i.invariant.1 k h))
-          (rw (get_or-set_same found i n 0 (omega arith)) (ap (number_of (get_or most i 0)) (get_or-map (λ x. x.now) ws i _ [] (omega arith)) ∙ sym c.in-ok-found.ensures.value)),
+          (rw (get_or-set_same found i n 0 (omega arith)) (ap (number_of (get_or most i 0)) (get_or-map (λ x. x.now) ws i _ [] (omega arith)) ∙ sym c.in_ok-found.ensures.value)),
     )
 
 pub returns : goal.returns

@@ -22,7 +22,7 @@ loop-i-preserved c =
     let bs = c.args.bytes.now in
     let mark = c.args.mark.now in
     let i = c.loop-i.i in
-    mark_later mark bs i c.loop-i-test.true (ap (after_mark mark) (sym (take_rest bs i)) ∙ sym c.in-default.ensures) ∙ c.loop-i.invariant
+    mark_later mark bs i c.loop-i-test.true (ap (after_mark mark) (sym (take_rest bs i)) ∙ sym c.in_default.ensures) ∙ c.loop-i.invariant
 
 pub returns : goal.returns
 returns c =

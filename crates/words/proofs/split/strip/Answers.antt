@@ -7,4 +7,4 @@ pub returns : goal.returns
 returns c =
     let bs = c.args.bytes.now in
     let mark = c.args.mark.now in
-    stripped c.strip-prefix.result mark bs (strip_prefix_is Decides-eqb bs mark c.strip-prefix.result c.strip-prefix.ensures.cases)
+    stripped c.strip_prefix.result mark bs (strip_prefix_is Decides-eqb bs mark c.strip_prefix.result c.strip_prefix.ensures.cases)

@@ -6,7 +6,7 @@ pub loop-rest-preserved : goal.loop-rest-preserved
 loop-rest-preserved g c =
     let rest = c.loop-rest.rest.now in
     let some : 1 ≤ length rest = omega (arith, ltb-false) in
-    front_goes g.S.Separator.separates rest some (sym c.if-not-is-separator.ensures) ∙ c.loop-rest.invariant
+    front_goes g.S.Separator.separates rest some (sym c.if-not-is_separator.ensures) ∙ c.loop-rest.invariant
 
 pub returns : goal.returns
 returns g c =

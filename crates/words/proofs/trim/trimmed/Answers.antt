@@ -7,4 +7,4 @@ pub returns : goal.returns
 unfolding trimmed_of
 returns g c =
     let sep = g.S.Separator.separates in
-    record { value = c.trim-back.ensures ∙ ap (without_back sep) c.trim-front.ensures; same_pieces = same_pieces sep }
+    record { value = c.trim_back.ensures ∙ ap (without_back sep) c.trim_front.ensures; same_pieces = same_pieces sep }

@@ -3,8 +3,8 @@ use Rattle.board.specs.declared.cursor.Pending.{Pending}
 use Rattle.board.proofs.Unwinding.{each_pushed, start_inside, start_last, step_in, step_last, call_in, call_last}
 use Rattle.board.proofs.cursor.Cursor.previous.Goals as goal
 
-pub overflow-sub-self : goal.overflow-sub-self
-overflow-sub-self c =
+pub overflow_sub-self : goal.overflow_sub-self
+overflow_sub-self c =
     let s = c.args.self.now in
     let w = c.requires.walks.room in
     start_inside c.requires.spells s.at (omega arith) s.stack s.depth c.in-Start.is c.requires.left

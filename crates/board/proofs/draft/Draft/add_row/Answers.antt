@@ -9,5 +9,5 @@ pub returns : goal.returns
 returns g c =
     let m = g.K.Kind.meaning in
     let before = held c.args.self.now.tables in
-    let after : held c.push-row.new.self ≡ row_after m before c.args.row = search rules in
+    let after : held c.push_row.new.self ≡ row_after m before c.args.row = search rules in
     record { answer = search rules; after = after; kept = λ s. subst (Sound m) (sym after) (row_keeps m before c.args.row s) }

@@ -9,5 +9,5 @@ pub returns : goal.returns
 returns g c =
     let m = g.K.Kind.meaning in
     let before = held c.args.self.now.tables in
-    let after : held c.clear-lines.new.self ≡ without_lines before = search rules in
+    let after : held c.clear_lines.new.self ≡ without_lines before = search rules in
     record { answer = search rules; after = after; kept = λ s. subst (Sound m) (sym after) (clear_keeps m before s) }

@@ -9,5 +9,5 @@ pub returns : goal.returns
 returns g c =
     let m = g.K.Kind.meaning in
     let before = held c.args.self.now.tables in
-    let after : held c.price-row.new.self ≡ reprice_row_after m before c.args.n c.args.cost = search rules in
+    let after : held c.price_row.new.self ≡ reprice_row_after m before c.args.n c.args.cost = search rules in
     record { answer = search rules; after = after; kept = λ s. subst (Sound m) (sym after) (reprice_row_keeps m before c.args.n c.args.cost s) }

@@ -13,9 +13,9 @@ returns g c =
     let laws = g.met.K.Kind.lawful in
     record {
       content = refl;
-      records = λ s. c.log-of-log.ensures.settled (costs_of t s);
-      computed = λ s. unique laws s (c.log-of-log.ensures.settled (costs_of t s)) (settling_computed m (held t) laws s).settled;
+      records = λ s. c.log_of-log.ensures.settled (costs_of t s);
+      computed = λ s. unique laws s (c.log_of-log.ensures.settled (costs_of t s)) (settling_computed m (held t) laws s).settled;
       promises = board_promises;
       example = settling_examples;
-      cheapest = λ s. (settling_promises m (held t) laws s).1 _ (c.log-of-log.ensures.settled (costs_of t s));
+      cheapest = λ s. (settling_promises m (held t) laws s).1 _ (c.log_of-log.ensures.settled (costs_of t s));
     }

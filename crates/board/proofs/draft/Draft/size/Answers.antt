@@ -6,11 +6,11 @@ use Rattle.board.proofs.Elements.{factors}
 use Rattle.board.proofs.Keeps.{size_keeps}
 use Rattle.board.proofs.draft.Draft.size.Goals as goal
 
-pub overflow-cast-modes : goal.overflow-cast-modes
-overflow-cast-modes g c = let f = factors c.args.modes c.args.moments (omega arith) (omega arith) in omega (arith, f.2)
+pub overflow_cast-modes : goal.overflow_cast-modes
+overflow_cast-modes g c = let f = factors c.args.modes c.args.moments (omega arith) (omega arith) in omega (arith, f.2)
 
-pub overflow-cast-moments : goal.overflow-cast-moments
-overflow-cast-moments g c = let f = factors c.args.modes c.args.moments (omega arith) (omega arith) in omega (arith, f.3)
+pub overflow_cast-moments : goal.overflow_cast-moments
+overflow_cast-moments g c = let f = factors c.args.modes c.args.moments (omega arith) (omega arith) in omega (arith, f.3)
 
 pub resize-requires : goal.resize-requires
 resize-requires g c =

@@ -9,7 +9,7 @@ pub returns-in-Some : goal.returns-in-Some
 returns-in-Some g c =
     let x = c.args.self.now in
     let e = c.in-Some.ensures in
-    let answer = cost_some x.log c.in-Some.r _ e.which _ (x.decreases c.in-Some.r.entry e.within.0) c.min.result c.min.ensures in
+    let answer = cost_some x.log c.in-Some.r _ e.which _ (x.measured c.in-Some.r.entry e.within.0) c.min.result c.min.ensures in
     record { answer = answer; means = λ s d. subst (CostMeans g.K.Kind.meaning (settled_content x) (settled_records x)) (sym answer) (cost_means g.met.K.Kind.lawful s d) }
 
 pub returns-in-None : goal.returns-in-None

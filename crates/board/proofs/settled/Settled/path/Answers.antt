@@ -8,15 +8,15 @@ use Rattle.board.proofs.Holding.{spells, small_is}
 use Rattle.board.proofs.Telling.{path_long, path_short}
 use Rattle.board.proofs.settled.Settled.path.Goals as goal
 
-pub write-moves-n-requires : goal.write-moves-n-requires
-write-moves-n-requires g c =
+pub write_moves-n-requires : goal.write_moves-n-requires
+write_moves-n-requires g c =
     let x = c.args.self.now in
     let l = x.log in
     let i = c.in-Some.r.entry in
     let h = c.in-Some.ensures.within.0 in
-    let m = x.decreases i h in
+    let m = x.measured i h in
     record {
-      spells = spells l x.long x.earlier x.decreases;
+      spells = spells l x.long x.earlier x.measured;
       within = h;
       short = omega arith;
       small = λ k n. small_is (move_of l i k) (x.small i k h);
@@ -26,11 +26,11 @@ write-moves-n-requires g c =
 pub pack-requires : goal.pack-requires
 pack-requires g c = let h = c.in-Some.ensures.within.1 in (omega (arith, c.args.self.now.tables.room.0), tt)
 
-pub returns-in-default : goal.returns-in-default
-returns-in-default g c =
+pub returns-in_default : goal.returns-in_default
+returns-in_default g c =
     let x = c.args.self.now in
     let b = c.args.buffer.now in
-    let e = c.in-default.ensures.which in
+    let e = c.in_default.ensures.which in
     let answer = ap (λ o. path_told o b) e in
     let after = ap (λ o. path_written o b) e in
     record { answer = answer; after = after; means = λ s d. subst₂ (PathMeans g.K.Kind.meaning (settled_content x) (settled_records x) b) (sym answer) (sym after) (path_means g.met.K.Kind.lawful s d b) }
@@ -40,7 +40,7 @@ returns-then-moves-buffer g c =
     let x = c.args.self.now in
     let b = c.args.buffer.now in
     let e = c.in-Some.ensures in
-    let z = path_long x.log c.in-Some.r _ e.which _ (x.decreases c.in-Some.r.entry e.within.0) b (⊎_elim (λ h. inl h) (λ h. inr h.1) c.then-moves-buffer.either) in
+    let z = path_long x.log c.in-Some.r _ e.which _ (x.measured c.in-Some.r.entry e.within.0) b (⊎_elim (λ h. inl h) (λ h. inr h.1) c.then-moves-buffer.either) in
     record { answer = z.0; after = z.1; means = λ s d. subst₂ (PathMeans g.K.Kind.meaning (settled_content x) (settled_records x) b) (sym z.0) (sym z.1) (path_means g.met.K.Kind.lawful s d b) }
 
 pub returns : goal.returns
@@ -48,5 +48,5 @@ returns g c =
     let x = c.args.self.now in
     let b = c.args.buffer.now in
     let e = c.in-Some.ensures in
-    let z = path_short x.log c.in-Some.r _ e.which _ (x.decreases c.in-Some.r.entry e.within.0) b c.write-moves-n.new.out c.write-moves-n.result c.pack.result c.if-moves-buffer.false c.if-moves-ge65535.false c.write-moves-n.ensures.count c.write-moves-n.ensures.after c.pack.ensures in
+    let z = path_short x.log c.in-Some.r _ e.which _ (x.measured c.in-Some.r.entry e.within.0) b c.write_moves-n.new.out c.write_moves-n.result c.pack.result c.if-moves-buffer.false c.if-moves-ge65535.false c.write_moves-n.ensures.count c.write_moves-n.ensures.after c.pack.ensures in
     record { answer = z.0; after = z.1; means = λ s d. subst₂ (PathMeans g.K.Kind.meaning (settled_content x) (settled_records x) b) (sym z.0) (sym z.1) (path_means g.met.K.Kind.lawful s d b) }

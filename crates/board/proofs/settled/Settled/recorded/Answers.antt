@@ -13,8 +13,8 @@ loop-moment-init g c = (c.loop-row.invariant.0 ∙ moments_none _ _ _ _ _ _, c.l
 pub loop-moment-preserved : goal.loop-moment-preserved
 loop-moment-preserved g c =
     let s = c.args.self.now in (
-      moments_more g.K.Kind.meaning (held s.tables) (records s.log) _ _ _ _ _ _ _ c.loop-moment.invariant.0 c.reading-at-next.ensures.which (c.better-best.ensures.which s.log),
-      c.better-best.ensures.within _ _ c.loop-moment.invariant.1 c.reading-at-next.ensures.within,
+      moments_more g.K.Kind.meaning (held s.tables) (records s.log) _ _ _ _ _ _ _ c.loop-moment.invariant.0 c.reading_at-next.ensures.which (c.better-best.ensures.which s.log),
+      c.better-best.ensures.within _ _ c.loop-moment.invariant.1 c.reading_at-next.ensures.within,
     )
 
 pub loop-row-preserved : goal.loop-row-preserved

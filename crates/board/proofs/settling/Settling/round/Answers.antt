@@ -7,15 +7,15 @@ use Rattle.board.proofs.settling.Settling.round.Goals as goal
 pub least-requires : goal.least-requires
 least-requires g c = record { long = c.requires.state.ok.long; costs = best_costs g.met.K.Kind.lawful c.requires.state }
 
-pub returns-in-default : goal.returns-in-default
-returns-in-default g c = record {
+pub returns-in_default : goal.returns-in_default
+returns-in_default g c = record {
   state = c.requires.state;
   reached = c.requires.reached;
-  made = (record { rounds = c.requires.reached.0; reached = c.requires.reached.1; done = none_left g.met.K.Kind.lawful c.requires.state c.in-default.ensures }, refl);
+  made = (record { rounds = c.requires.reached.0; reached = c.requires.reached.1; done = none_left g.met.K.Kind.lawful c.requires.state c.in_default.ensures }, refl);
 }
 
-pub settle-one-requires : goal.settle-one-requires
-settle-one-requires g c = record {
+pub settle_one-requires : goal.settle_one-requires
+settle_one-requires g c = record {
   state = c.requires.state;
   fresh = round_fresh g.met.K.Kind.lawful c.requires.state c.in-Some.r c.in-Some.ensures;
   kept = round_kept g.met.K.Kind.lawful c.requires.state c.in-Some.r c.in-Some.ensures;
@@ -26,7 +26,7 @@ pub returns : goal.returns
 returns g c =
     let added = round_is g.met.K.Kind.lawful c.requires.state c.in-Some.r c.in-Some.ensures in
     record {
-      state = c.settle-one.ensures.state;
-      reached = (suc c.requires.reached.0, subst (Rounds g.K.Kind.meaning (held c.args.t.now) (suc c.requires.reached.0)) (sym c.settle-one.ensures.more) (round c.requires.reached.1 added));
-      made = record { added = _; round = added; more = c.settle-one.ensures.more; count = c.settle-one.ensures.count };
+      state = c.settle_one.ensures.state;
+      reached = (suc c.requires.reached.0, subst (Rounds g.K.Kind.meaning (held c.args.t.now) (suc c.requires.reached.0)) (sym c.settle_one.ensures.more) (round c.requires.reached.1 added));
+      made = record { added = _; round = added; more = c.settle_one.ensures.more; count = c.settle_one.ensures.count };
     }

@@ -1,11 +1,11 @@
 use Rattle.board.proofs.settling.calls.offer_all.Goals as goal
 use Rattle.board.proofs.Growing.{grown_then}
 
-pub offer-steps-requires : goal.offer-steps-requires
-offer-steps-requires g c = c.requires
+pub offer_steps-requires : goal.offer_steps-requires
+offer_steps-requires g c = c.requires
 
-pub offer-calls-requires : goal.offer-calls-requires
-offer-calls-requires g c = record { ready = c.requires.ready; within = c.requires.within; ok = c.offer-steps.ensures.ok }
+pub offer_calls-requires : goal.offer_calls-requires
+offer_calls-requires g c = record { ready = c.requires.ready; within = c.requires.within; ok = c.offer_steps.ensures.ok }
 
 pub returns : goal.returns
-returns g c = grown_then c.offer-steps.ensures c.offer-calls.ensures (λ y s. s)
+returns g c = grown_then c.offer_steps.ensures c.offer_calls.ensures (λ y s. s)

@@ -7,14 +7,14 @@ use Rattle.board.specs.Held.{held}
 pub loop-row-init : goal.loop-row-init
 loop-row-init g c = grown_none (CallsOpen g.K.Kind.meaning c.args.t.now c.args.log.now c.args.i) c.requires.ok
 
-pub offer-insides-requires : goal.offer-insides-requires
-offer-insides-requires g c = record { ready = c.requires.ready; within = c.requires.within; ok = c.loop-row.invariant.ok }
+pub offer_insides-requires : goal.offer_insides-requires
+offer_insides-requires g c = record { ready = c.requires.ready; within = c.requires.within; ok = c.loop-row.invariant.ok }
 
-pub offer-fronts-requires : goal.offer-fronts-requires
-offer-fronts-requires g c = record { ready = c.requires.ready; within = c.requires.within; listed = c.loop-row-test.true; ok = c.offer-insides.ensures.ok }
+pub offer_fronts-requires : goal.offer_fronts-requires
+offer_fronts-requires g c = record { ready = c.requires.ready; within = c.requires.within; listed = c.loop-row-test.true; ok = c.offer_insides.ensures.ok }
 
 pub loop-row-preserved : goal.loop-row-preserved
-loop-row-preserved g c = grown_more (CallsOpen g.K.Kind.meaning c.args.t.now c.args.log.now c.args.i) c.loop-row.row c.loop-row.invariant (grown_then c.offer-insides.ensures c.offer-fronts.ensures (λ y s. s))
+loop-row-preserved g c = grown_more (CallsOpen g.K.Kind.meaning c.args.t.now c.args.log.now c.args.i) c.loop-row.row c.loop-row.invariant (grown_then c.offer_insides.ensures c.offer_fronts.ensures (λ y s. s))
 
 pub returns : goal.returns
 returns g c = grown_for (upto_eq (CallsOpen g.K.Kind.meaning c.args.t.now c.args.log.now c.args.i) _ _ c.loop-row.auto.row-end c.loop-row-test.false c.loop-row.invariant) (calls_in_rows c.args.t.now c.args.log.now c.args.i)

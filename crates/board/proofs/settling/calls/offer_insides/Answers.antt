@@ -7,10 +7,10 @@ use Rattle.board.specs.Held.{held}
 use Rattle.board.specs.Logs.{Grows, numbered, CallsTo}
 use Rattle.board.proofs.Growing.{grown_same, grown_none, grown_more, grown_for, upto_eq}
 use Rattle.board.proofs.Calling.{seen, join_two, way_cost, way_on, place_small, index_hit, inside_opened, inside_hit, inside_miss, insides_all, insides_none}
-use Rattle.board.proofs.settling.calls.offer_insides.Goals.{in-Some-at, in-default-at}
+use Rattle.board.proofs.settling.calls.offer_insides.Goals.{in-Some-at, in_default-at}
 
-pub returns-in-default : goal.returns-in-default
-returns-in-default g c = grown_same c.requires.ok (insides_none g.met.K.Kind.lawful c.requires.ready c.args.i c.args.row c.in-default.ensures)
+pub returns-in_default : goal.returns-in_default
+returns-in_default g c = grown_same c.requires.ok (insides_none g.met.K.Kind.lawful c.requires.ready c.args.i c.args.row c.in_default.ensures)
 
 pub loop-u-init : goal.loop-u-init
 loop-u-init g c = grown_none (CallsTo g.K.Kind.meaning c.args.t.now c.args.log.now c.args.i c.args.row) c.requires.ok
@@ -18,26 +18,26 @@ loop-u-init g c = grown_none (CallsTo g.K.Kind.meaning c.args.t.now c.args.log.n
 pub at-requires : goal.at-requires
 at-requires g c =
     let h : place_number (held c.args.t.now) c.in-Some.w.to < 64 = place_small g.met.K.Kind.lawful c.requires.ready c.in-Some.w.to (way_on g.met.K.Kind.lawful c.requires.ready c.args.row (numbered c.args.log.now c.args.i).to c.in-Some.w c.in-Some.ensures) in
-    omega (arith, c.place-number-start.ensures.number)
+    omega (arith, c.place_number-start.ensures.number)
 
-pub offset-bounds-log-j : goal.offset-bounds-log-j
-offset-bounds-log-j g c =
-    let e : get_or c.args.log.now.index (place_number (held c.args.t.now) c.in-Some.w.to * 64 + c.loop-u.u) None ≡ Some c.in-Some-at.j = seen (λ (n : ℕ). get_or c.args.log.now.index (n * 64 + c.loop-u.u) None) c.place-number-start.result _ c.at.result _ c.place-number-start.ensures.number c.at.ensures c.in-Some-at.is in
+pub offset_bounds-log-j : goal.offset_bounds-log-j
+offset_bounds-log-j g c =
+    let e : get_or c.args.log.now.index (place_number (held c.args.t.now) c.in-Some.w.to * 64 + c.loop-u.u) None ≡ Some c.in-Some-at.j = seen (λ (n : ℕ). get_or c.args.log.now.index (n * 64 + c.loop-u.u) None) c.place_number-start.result _ c.at.result _ c.place_number-start.ensures.number c.at.ensures c.in-Some-at.is in
     let h = (index_hit g.met.K.Kind.lawful c.requires.ready _ c.loop-u.u c.in-Some-at.j c.loop-u-test.true e).0 in
     omega (arith, c.requires.ready.book.room)
 
 pub bounds-log-j : goal.bounds-log-j
 bounds-log-j g c =
-    let e : get_or c.args.log.now.index (place_number (held c.args.t.now) c.in-Some.w.to * 64 + c.loop-u.u) None ≡ Some c.in-Some-at.j = seen (λ (n : ℕ). get_or c.args.log.now.index (n * 64 + c.loop-u.u) None) c.place-number-start.result _ c.at.result _ c.place-number-start.ensures.number c.at.ensures c.in-Some-at.is in
+    let e : get_or c.args.log.now.index (place_number (held c.args.t.now) c.in-Some.w.to * 64 + c.loop-u.u) None ≡ Some c.in-Some-at.j = seen (λ (n : ℕ). get_or c.args.log.now.index (n * 64 + c.loop-u.u) None) c.place_number-start.result _ c.at.result _ c.place_number-start.ensures.number c.at.ensures c.in-Some-at.is in
     let h = (index_hit g.met.K.Kind.lawful c.requires.ready _ c.loop-u.u c.in-Some-at.j c.loop-u-test.true e).0 in
     omega (arith, c.requires.ready.book.room)
 
-pub offer-closes-requires : goal.offer-closes-requires
-offer-closes-requires g c =
-    let e : get_or c.args.log.now.index (place_number (held c.args.t.now) c.in-Some.w.to * 64 + c.loop-u.u) None ≡ Some c.in-Some-at.j = seen (λ (n : ℕ). get_or c.args.log.now.index (n * 64 + c.loop-u.u) None) c.place-number-start.result _ c.at.result _ c.place-number-start.ensures.number c.at.ensures c.in-Some-at.is in
+pub offer_closes-requires : goal.offer_closes-requires
+offer_closes-requires g c =
+    let e : get_or c.args.log.now.index (place_number (held c.args.t.now) c.in-Some.w.to * 64 + c.loop-u.u) None ≡ Some c.in-Some-at.j = seen (λ (n : ℕ). get_or c.args.log.now.index (n * 64 + c.loop-u.u) None) c.place_number-start.result _ c.at.result _ c.place_number-start.ensures.number c.at.ensures c.in-Some-at.is in
     record {
       ready = c.requires.ready;
-      opened = inside_opened g.met.K.Kind.lawful c.requires.ready c.args.i c.args.row c.requires.within c.in-Some.w c.in-Some.ensures c.loop-u.u c.in-Some-at.j c.join.result c.loop-u-test.true e (c.join.ensures ∙ ap (λ (n : ℕ). g.K.Kind.meaning.join n (numbered c.args.log.now c.in-Some-at.j).cost) c.join_cost.ensures);
+      opened = inside_opened g.met.K.Kind.lawful c.requires.ready c.args.i c.args.row c.requires.within c.in-Some.w c.in-Some.ensures c.loop-u.u c.in-Some-at.j c.join.result c.loop-u-test.true e (c.join.ensures ∙ ap (λ (n : ℕ). g.K.Kind.meaning.join n (numbered c.args.log.now c.in-Some-at.j).cost) c.join-cost.ensures);
       ok = c.loop-u.invariant.ok;
     }
 
@@ -46,8 +46,8 @@ loop-u-preserved g c =
     let Q : ℕ → Record → Type 0 = CallsTo g.K.Kind.meaning c.args.t.now c.args.log.now c.args.i c.args.row in
     let one : Grows g.K.Kind.meaning c.args.t.now c.args.log.now c.loop-u.best c.match-at.best (Q c.loop-u.u) =
     elim c.match-at.branch [
-      | in-Some-at w ↦ subst (λ (b : List (Option Entry)). Grows g.K.Kind.meaning c.args.t.now c.args.log.now c.loop-u.best b (Q c.loop-u.u)) (sym w.best-is) (grown_for w.offer-closes.ensures (inside_hit g.met.K.Kind.lawful c.requires.ready c.args.i c.args.row c.requires.within c.in-Some.w c.in-Some.ensures c.loop-u.u w.in-Some-at.j (seen (λ (n : ℕ). get_or c.args.log.now.index (n * 64 + c.loop-u.u) None) c.place-number-start.result _ c.at.result _ c.place-number-start.ensures.number c.at.ensures w.in-Some-at.is)))
-      | in-default-at w ↦ subst (λ (b : List (Option Entry)). Grows g.K.Kind.meaning c.args.t.now c.args.log.now c.loop-u.best b (Q c.loop-u.u)) (sym w.best-is) (grown_same c.loop-u.invariant.ok (inside_miss g.met.K.Kind.lawful c.requires.ready c.args.i c.args.row c.requires.within c.in-Some.w c.in-Some.ensures c.loop-u.u (seen (λ (n : ℕ). get_or c.args.log.now.index (n * 64 + c.loop-u.u) None) c.place-number-start.result _ c.at.result _ c.place-number-start.ensures.number c.at.ensures w.in-default-at.is)))
+      | in-Some-at w ↦ subst (λ (b : List (Option Entry)). Grows g.K.Kind.meaning c.args.t.now c.args.log.now c.loop-u.best b (Q c.loop-u.u)) (sym w.best-is) (grown_for w.offer_closes.ensures (inside_hit g.met.K.Kind.lawful c.requires.ready c.args.i c.args.row c.requires.within c.in-Some.w c.in-Some.ensures c.loop-u.u w.in-Some-at.j (seen (λ (n : ℕ). get_or c.args.log.now.index (n * 64 + c.loop-u.u) None) c.place_number-start.result _ c.at.result _ c.place_number-start.ensures.number c.at.ensures w.in-Some-at.is)))
+      | in_default-at w ↦ subst (λ (b : List (Option Entry)). Grows g.K.Kind.meaning c.args.t.now c.args.log.now c.loop-u.best b (Q c.loop-u.u)) (sym w.best-is) (grown_same c.loop-u.invariant.ok (inside_miss g.met.K.Kind.lawful c.requires.ready c.args.i c.args.row c.requires.within c.in-Some.w c.in-Some.ensures c.loop-u.u (seen (λ (n : ℕ). get_or c.args.log.now.index (n * 64 + c.loop-u.u) None) c.place_number-start.result _ c.at.result _ c.place_number-start.ensures.number c.at.ensures w.in_default-at.is)))
     ] in
     grown_more Q c.loop-u.u c.loop-u.invariant one
 

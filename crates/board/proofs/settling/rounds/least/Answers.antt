@@ -3,7 +3,7 @@ use Rattle.std.proofs.Common.{◌≡◌, ℕ, ◌+◌, Some, None, Option, sym, 
 use Rattle.board.specs.declared.log.Entry.{Entry}
 use Rattle.board.specs.Logs.{standing, Chosen, limit_of}
 use Rattle.board.proofs.Choosing.{vacant_some, chosen_skip, chosen_keep, chosen_take}
-use Rattle.board.proofs.settling.rounds.least.Goals.{in-Some+then-not-no-dearer, in-Some+else-not-no-dearer, in-default}
+use Rattle.board.proofs.settling.rounds.least.Goals.{in-Some+then-not-no_dearer, in-Some+else-not-no_dearer, in_default}
 
 pub loop-p-init : goal.loop-p-init
 loop-p-init g c = (c.worst-limit.ensures, λ q r h. absurd (omega arith))
@@ -20,9 +20,9 @@ loop-p-preserved g c =
     let l = c.loop-p.invariant.0 in
     let k = c.loop-p.invariant.1 in
     elim c.match-standing.branch [
-      | in-Some+then-not-no-dearer w ↦ subst₂ P (sym w.limit-is) (sym w.found-is) (refl, chosen_take g.met.K.Kind.lawful f priced c.loop-p.p c.loop-p.found w.in-Some.r (sym c.standing.ensures ∙ w.in-Some.is) (ap (λ (n : ℕ). m.no_dearer n w.in-Some.r.cost) (sym l) ∙ (sym w.no_dearer.ensures ∙ w.if-not-no-dearer.true)) k)
-      | in-Some+else-not-no-dearer w ↦ subst₂ P (sym w.limit-is) (sym w.found-is) (l, chosen_keep g.met.K.Kind.lawful f priced c.loop-p.p c.loop-p.found w.in-Some.r (sym c.standing.ensures ∙ w.in-Some.is) (ap (λ (n : ℕ). m.no_dearer n w.in-Some.r.cost) (sym l) ∙ (sym w.no_dearer.ensures ∙ w.if-not-no-dearer.false)) k)
-      | in-default w ↦ subst₂ P (sym w.limit-is) (sym w.found-is) (l, chosen_skip g.met.K.Kind.lawful f priced c.loop-p.p c.loop-p.found (sym c.standing.ensures ∙ w.in-default.is) k)
+      | in-Some+then-not-no_dearer w ↦ subst₂ P (sym w.limit-is) (sym w.found-is) (refl, chosen_take g.met.K.Kind.lawful f priced c.loop-p.p c.loop-p.found w.in-Some.r (sym c.standing.ensures ∙ w.in-Some.is) (ap (λ (n : ℕ). m.no_dearer n w.in-Some.r.cost) (sym l) ∙ (sym w.no_dearer.ensures ∙ w.if-not-no_dearer.true)) k)
+      | in-Some+else-not-no_dearer w ↦ subst₂ P (sym w.limit-is) (sym w.found-is) (l, chosen_keep g.met.K.Kind.lawful f priced c.loop-p.p c.loop-p.found w.in-Some.r (sym c.standing.ensures ∙ w.in-Some.is) (ap (λ (n : ℕ). m.no_dearer n w.in-Some.r.cost) (sym l) ∙ (sym w.no_dearer.ensures ∙ w.if-not-no_dearer.false)) k)
+      | in_default w ↦ subst₂ P (sym w.limit-is) (sym w.found-is) (l, chosen_skip g.met.K.Kind.lawful f priced c.loop-p.p c.loop-p.found (sym c.standing.ensures ∙ w.in_default.is) k)
     ]
 
 pub returns : goal.returns

@@ -8,8 +8,8 @@ use Rattle.board.proofs.Turning.{settled_small}
 use Rattle.board.proofs.Holding.{small_moves}
 use Rattle.board.proofs.settling.rounds.log_of.Goals as goal
 
-pub settled-log-requires : goal.settled-log-requires
-settled-log-requires g c = sound_tables c.args.t.now c.if-not-priced.ensures
+pub settled_log-requires : goal.settled_log-requires
+settled_log-requires g c = sound_tables c.args.t.now c.if-not-priced.ensures
 
 pub returns-then-not-priced : goal.returns-then-not-priced
 returns-then-not-priced g c =

@@ -5,14 +5,14 @@ use Rattle.board.specs.Logged.{pair_of}
 use Rattle.board.specs.Logs.{numbered}
 use Rattle.board.proofs.Offering.{arrival_cost, arrival_lands, pair_room, step_none, step_loud, step_one}
 
-pub offset-bounds-log-i : goal.offset-bounds-log-i
-offset-bounds-log-i g c = let h = c.requires.ready.book.room in omega arith
+pub offset_bounds-log-i : goal.offset_bounds-log-i
+offset_bounds-log-i g c = let h = c.requires.ready.book.room in omega arith
 
 pub bounds-log-i : goal.bounds-log-i
 bounds-log-i g c = let h = c.requires.ready.book.room in omega arith
 
-pub overflow-cast-r : goal.overflow-cast-r
-overflow-cast-r g c = let h = c.requires.ready.book.room in omega arith
+pub overflow_cast-r : goal.overflow_cast-r
+overflow_cast-r g c = let h = c.requires.ready.book.room in omega arith
 
 pub offer-requires : goal.offer-requires
 offer-requires g c =

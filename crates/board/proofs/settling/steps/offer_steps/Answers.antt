@@ -9,23 +9,23 @@ use Rattle.board.proofs.Stepping.{row_split, steps_in}
 pub loop-row-init : goal.loop-row-init
 loop-row-init g c = grown_none (RowSteps g.K.Kind.meaning c.args.t.now c.args.log.now c.args.i) c.requires.ok
 
-pub offer-step-requires : goal.offer-step-requires
-offer-step-requires g c = record { ready = c.requires.ready; within = c.requires.within; ok = c.loop-row.invariant.ok }
+pub offer_step-requires : goal.offer_step-requires
+offer_step-requires g c = record { ready = c.requires.ready; within = c.requires.within; ok = c.loop-row.invariant.ok }
 
 pub loop-line-init : goal.loop-line-init
-loop-line-init g c = grown_none (LineStep g.K.Kind.meaning c.args.t.now c.args.log.now c.args.i c.loop-row.row) c.offer-step.ensures.ok
+loop-line-init g c = grown_none (LineStep g.K.Kind.meaning c.args.t.now c.args.log.now c.args.i c.loop-row.row) c.offer_step.ensures.ok
 
-pub offer-step-requires-in-loop-line : goal.offer-step-requires-in-loop-line
-offer-step-requires-in-loop-line g c = record { ready = c.requires.ready; within = c.requires.within; ok = c.loop-line.invariant.ok }
+pub offer_step-requires-in-loop-line : goal.offer_step-requires-in-loop-line
+offer_step-requires-in-loop-line g c = record { ready = c.requires.ready; within = c.requires.within; ok = c.loop-line.invariant.ok }
 
 pub loop-line-preserved : goal.loop-line-preserved
-loop-line-preserved g c = grown_more (LineStep g.K.Kind.meaning c.args.t.now c.args.log.now c.args.i c.loop-row.row) c.loop-line.line c.loop-line.invariant c.offer-step-in-loop-line.ensures
+loop-line-preserved g c = grown_more (LineStep g.K.Kind.meaning c.args.t.now c.args.log.now c.args.i c.loop-row.row) c.loop-line.line c.loop-line.invariant c.offer_step-in-loop-line.ensures
 
 pub loop-row-preserved : goal.loop-row-preserved
 loop-row-preserved g c =
     let R : ℕ → Record → Type 0 = RowSteps g.K.Kind.meaning c.args.t.now c.args.log.now c.args.i in
     let L : ℕ → Record → Type 0 = LineStep g.K.Kind.meaning c.args.t.now c.args.log.now c.args.i c.loop-row.row in
-    grown_more R c.loop-row.row c.loop-row.invariant (grown_then c.offer-step.ensures (upto_eq L _ _ c.loop-line.auto.line-end c.loop-line-test.false c.loop-line.invariant) (row_split c.args.t.now c.args.log.now c.args.i c.loop-row.row))
+    grown_more R c.loop-row.row c.loop-row.invariant (grown_then c.offer_step.ensures (upto_eq L _ _ c.loop-line.auto.line-end c.loop-line-test.false c.loop-line.invariant) (row_split c.args.t.now c.args.log.now c.args.i c.loop-row.row))
 
 pub returns : goal.returns
 returns g c = grown_for (upto_eq (RowSteps g.K.Kind.meaning c.args.t.now c.args.log.now c.args.i) _ _ c.loop-row.auto.row-end c.loop-row-test.false c.loop-row.invariant) (steps_in c.args.t.now c.args.log.now c.args.i)

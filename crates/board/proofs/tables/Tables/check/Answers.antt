@@ -25,15 +25,15 @@ returns-in-Err g c =
 
 pub loop-index-preserved : goal.loop-index-preserved
 loop-index-preserved g c =
-    checked_more g.K.Kind.meaning (held c.args.self.now) (progress_of c.loop-index.checker) c.args.moves.now c.loop-index.index (progress_of c.take_move.new.self) c.loop-index-test.true c.in-default.ensures
+    checked_more g.K.Kind.meaning (held c.args.self.now) (progress_of c.loop-index.checker) c.args.moves.now c.loop-index.index (progress_of c.take_move.new.self) c.loop-index-test.true c.in_default.ensures
     ∙ c.loop-index.invariant
 
-pub returns-then-not-has-ended : goal.returns-then-not-has-ended
-returns-then-not-has-ended g c =
+pub returns-then-not-has_ended : goal.returns-then-not-has_ended
+returns-then-not-has_ended g c =
     let m = g.K.Kind.meaning in
     let t = c.args.self.now in
     let xs = c.args.moves.now in
-    let answer = checked_short m (held t) (progress_of c.loop-index.checker) xs c.loop-index.index c.loop-index-test.false c.loop-index.auto.index-end (sym c.if-not-has-ended.ensures) ∙ c.loop-index.invariant in
+    let answer = checked_short m (held t) (progress_of c.loop-index.checker) xs c.loop-index.index c.loop-index-test.false c.loop-index.auto.index-end (sym c.if-not-has_ended.ensures) ∙ c.loop-index.invariant in
     record { answer = answer; readings = readings m t xs _ answer }
 
 pub returns : goal.returns
@@ -41,5 +41,5 @@ returns g c =
     let m = g.K.Kind.meaning in
     let t = c.args.self.now in
     let xs = c.args.moves.now in
-    let answer = checked_whole m (held t) (progress_of c.loop-index.checker) xs c.loop-index.index c.total.result c.loop-index-test.false (sym c.if-not-has-ended.ensures) c.total.ensures ∙ c.loop-index.invariant in
+    let answer = checked_whole m (held t) (progress_of c.loop-index.checker) xs c.loop-index.index c.total.result c.loop-index-test.false (sym c.if-not-has_ended.ensures) c.total.ensures ∙ c.loop-index.invariant in
     record { answer = answer; readings = readings m t xs _ answer }

@@ -7,27 +7,19 @@ use Rattle.board.specs.Calls.{line_at_cost}
 use Rattle.board.proofs.Elements.{each_set, changed_front}
 use Rattle.board.proofs.tables.Tables.price_line.Goals as goal
 
-pub invariant-of-self : goal.invariant-of-self
-invariant-of-self c =
+pub invariant_of-self : goal.invariant_of-self
+invariant_of-self c =
     let t = c.args.self.now in
     let n = c.args.n in
     let here : n < t.line_count = omega (arith, c.requires, length-take t.line_count t.lines) in
-    let lt : n < length t.lines = omega (arith, here, t.room.1, t.long.1) in (
-      t.room,
-      (
-        (t.long.0, simp length-set t.long.1),
-        (
-          t.sized,
-          (
-            t.rows_in,
-            (
-              t.rows_formed,
-              (each_set (λ (l : Line). (l.from < t.moments) × (l.to < t.moments) × (0 < l.event)) t.lines _ n _ lt t.lines_in (t.lines_in n _ here), tt),
-            ),
-          ),
-        ),
-      ),
-    )
+    let lt : n < length t.lines = omega (arith, here, t.room.1, t.long.1) in record {
+      room = t.room;
+      long = (t.long.0, simp length-set t.long.1);
+      sized = t.sized;
+      rows_in = t.rows_in;
+      rows_formed = t.rows_formed;
+      lines_in = each_set (λ (l : Line). (l.from < t.moments) × (l.to < t.moments) × (0 < l.event)) t.lines _ n _ lt t.lines_in (t.lines_in n _ here);
+    }
 
 pub returns : goal.returns
 returns c =

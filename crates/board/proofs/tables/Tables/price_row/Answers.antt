@@ -14,28 +14,20 @@ use Rattle.board.proofs.tables.Tables.price_row.Goals as goal
 abbrev no_row : Row
 no_row = record { kind = Plain; from = 0; to = 0; label = 0; action = 0; cost = 0 }
 
-pub invariant-of-self : goal.invariant-of-self
-invariant-of-self c =
+pub invariant_of-self : goal.invariant_of-self
+invariant_of-self c =
     let t = c.args.self.now in
     let n = c.args.n in
     let here : n < t.row_count = omega (arith, c.requires, length-take t.row_count t.rows) in
     let lt : n < length t.rows = omega (arith, here, t.room.0, t.long.0) in
-    let r = get_or t.rows n no_row in (
-      t.room,
-      (
-        (simp length-set t.long.0, t.long.1),
-        (
-          t.sized,
-          (
-            each_set (λ (r : Row). (r.from < t.modes) × (r.to < t.modes)) t.rows _ n _ lt t.rows_in (t.rows_in n _ here),
-            (
-              each_set (λ (r : Row). formed r.kind r ≡ true) t.rows _ n _ lt t.rows_formed (formed_at_cost r.kind r c.args.cost ∙ t.rows_formed n no_row here),
-              (t.lines_in, tt),
-            ),
-          ),
-        ),
-      ),
-    )
+    let r = get_or t.rows n no_row in record {
+      room = t.room;
+      long = (simp length-set t.long.0, t.long.1);
+      sized = t.sized;
+      rows_in = each_set (λ (r : Row). (r.from < t.modes) × (r.to < t.modes)) t.rows _ n _ lt t.rows_in (t.rows_in n _ here);
+      rows_formed = each_set (λ (r : Row). formed r.kind r ≡ true) t.rows _ n _ lt t.rows_formed (formed_at_cost r.kind r c.args.cost ∙ t.rows_formed n no_row here);
+      lines_in = t.lines_in;
+    }
 
 pub returns : goal.returns
 returns c =
