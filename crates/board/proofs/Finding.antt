@@ -10,7 +10,7 @@ use Rattle.board.specs.declared.moves.Effect.TheVariants.{Quiet, Opens, Closes, 
 use Rattle.board.specs.declared.moves.Arrival.{Arrival}
 use Rattle.board.specs.Content.{Content, Sound}
 use Rattle.board.specs.Moves.{Place, mode, moment, origin, place_number, On, Transition, is_end}
-use Rattle.board.specs.Settling.{Cheaper, In, bare, Record, Rounds, Settled, ReadingBy, RecordedReading, NoReading, Answer}
+use Rattle.board.specs.Settling.{Cheaper, In, bare, Record, Rounds, Settled, ReadingBy, RecordedReading, HasNoReading, Answer}
 use Rattle.board.specs.Arrivals.{arrival_on}
 use Rattle.board.specs.Computing.{joins?, record_between, ReadingFound, ending, reading_at, better, best_moments, mode_left, best_rows, found}
 use Rattle.board.specs.Promises.{Computed}
@@ -232,7 +232,7 @@ module _ {m : Meaning} {c : Content} (laws : Lawful m) (sound : Sound m c) {roun
       let is : f ≡ x = cc in
       subst (λ (y : ReadingFound). RecordedReading m c log y.cost y.moves) is (record { last = f.row; reads = s.reads; below = s.below; least = λ i n ws r. s.least i n ws r (all_scanned i n ws r) })
 
-  none_scan : (b : Option ReadingFound) → Scanned (λ i q. i < length c.rows) (length c.rows) b → b ≡ None → NoReading m c log
+  none_scan : (b : Option ReadingFound) → Scanned (λ i q. i < length c.rows) (length c.rows) b → b ≡ None → HasNoReading m c log
   none_scan None s e = λ i n ws r. s i n ws r (all_scanned i n ws r)
   none_scan (Some f) s e = absurd (none_some _ f e refl)
 
@@ -240,7 +240,7 @@ module _ {m : Meaning} {c : Content} (laws : Lawful m) (sound : Sound m c) {roun
   unfolding found
   found_recorded x e = from_scan _ (rows_scanned (length c.rows)) x e
 
-  pub found_none : found m c log ≡ None → NoReading m c log
+  pub found_none : found m c log ≡ None → HasNoReading m c log
   unfolding found
   found_none e = none_scan _ (rows_scanned (length c.rows)) e
 
@@ -253,7 +253,7 @@ module _ {m : Meaning} {c : Content} (laws : Lawful m) (sound : Sound m c) {roun
       either (Some x) e = (x.cost, inl (x.moves, found_recorded x e))
 
 -- not both a recorded reading and none
-not_both : {m : Meaning} {c : Content} {log : List Record} {k : ℕ} {vs : List Move} → RecordedReading m c log k vs → NoReading m c log → ⊥
+not_both : {m : Meaning} {c : Content} {log : List Record} {k : ℕ} {vs : List Move} → RecordedReading m c log k vs → HasNoReading m c log → ⊥
 not_both r none = both_ways _ r.below (none r.last _ _ r.reads)
 
 module _ {m : Meaning} {c : Content} (laws : Lawful m) (sound : Sound m c) where
@@ -267,7 +267,7 @@ module _ {m : Meaning} {c : Content} (laws : Lawful m) (sound : Sound m c) where
           let is : x ≡ the_found x.row k vs = λ j. the_found x.row (same.0 j) (same.1 j) in
           (x.row, e ∙ ap Some is)
 
-  none_found : {log : List Record} → Settled m c log → NoReading m c log → found m c log ≡ None
+  none_found : {log : List Record} → Settled m c log → HasNoReading m c log → found m c log ≡ None
   none_found {log} d none = either (found m c log) refl
     where
       either : (o : Option ReadingFound) → found m c log ≡ o → found m c log ≡ None

@@ -14,7 +14,7 @@ use Rattle.board.specs.Rows.{formed}
 use Rattle.board.specs.Content.{Content, Sound}
 use Rattle.board.specs.Moves.{Place, origin, effect_of, Transition}
 use Rattle.board.specs.Paths.{Path, stop, go, Dyck, empty, Balanced, BalancedPath, Complete}
-use Rattle.board.specs.Settling.{Cheaper, bare, Record, Rounds, Settled, ReadingBy, RecordedReading, NoReading, Answer}
+use Rattle.board.specs.Settling.{Cheaper, bare, Record, Rounds, Settled, ReadingBy, RecordedReading, HasNoReading, Answer}
 use Rattle.board.proofs.Laws.{no_dearer_eq, no_dearer_left, cheaper_no_dearer, cheaper_down}
 use Rattle.board.proofs.Diagonal.{place_eq}
 use Rattle.board.proofs.Candidates.{move_eq}
@@ -147,14 +147,14 @@ module _ {m : Meaning} {c : Content} (laws : Lawful m) (sound : Sound m c) where
       ⊎_elim (λ (t : NoDearer m m.worst n). laws.trans k m.worst n hk laws.worst_cost hn (laws.worst_most k hk) t) by-log (cases_Bool (m.no_dearer m.worst n))
 
   -- there is no reading exactly if no complete reading costs less than the worst
-  pub none_complete : {log : List Record} → Settled m c log → NoReading m c log → (ws : List Move) (n : ℕ) → Complete m c ws n → NoDearer m m.worst n
+  pub none_complete : {log : List Record} → Settled m c log → HasNoReading m c log → (ws : List Move) (n : ℕ) → Complete m c ws n → NoDearer m m.worst n
   none_complete d u ws n h =
       let by-log : Cheaper m n m.worst → NoDearer m m.worst n = λ below.
       let z = reading_of d h below in
       laws.trans m.worst z.cost n laws.worst_cost (reading_cost d.reached z.reads) (complete_cost h) (u z.row z.cost z.moves z.reads) z.within in
       ⊎_elim (λ (t : NoDearer m m.worst n). t) by-log (cases_Bool (m.no_dearer m.worst n))
 
-  pub none_read : {n : ℕ} {log : List Record} → Rounds m c n log → ((ws : List Move) (n : ℕ) → Complete m c ws n → NoDearer m m.worst n) → NoReading m c log
+  pub none_read : {n : ℕ} {log : List Record} → Rounds m c n log → ((ws : List Move) (n : ℕ) → Complete m c ws n → NoDearer m m.worst n) → HasNoReading m c log
   none_read s h i n ws r = h ws n (reading_complete s r)
 
   -- the answer is a cost, and no complete reading is cheaper

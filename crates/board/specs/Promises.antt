@@ -6,7 +6,7 @@ use Rattle.board.specs.declared.moves.Arrival.{Arrival}
 use Rattle.board.specs.Content.{Content, Sound}
 use Rattle.board.specs.Moves.{Place, On, Transition}
 use Rattle.board.specs.Paths.{BalancedPath, Complete}
-use Rattle.board.specs.Settling.{Cheaper, In, Record, Settled, RecordedReading, NoReading, Answer}
+use Rattle.board.specs.Settling.{Cheaper, In, Record, Settled, RecordedReading, HasNoReading, Answer}
 use Rattle.board.specs.Arrivals.{arrival_on}
 use Rattle.board.specs.Packing.{packed}
 use Rattle.board.specs.Checks.{check_answer}
@@ -49,7 +49,7 @@ pub record Cheapest (m : Meaning) (c : Content) (log : List Record) : Type 0 whe
   -- every complete reading costs at least as much as the recorded one
   pub cheapest : (k n : ℕ) (vs ws : List Move) → RecordedReading m c log k vs → Complete m c ws n → NoDearer m k n
   -- there is no recorded reading exactly if every complete reading costs no less than the worst
-  pub none : NoReading m c log ↔ NoneBelow m c
+  pub none : HasNoReading m c log ↔ NoneBelow m c
   -- a content with only more rows or lines, or cheaper ones, answers no dearer
   pub eased : (c' : Content) (log' : List Record) (k k' : ℕ) → Sound m c' → Eased m c c' → Settled m c' log' → Answer m c log k → Answer m c' log' k' → NoDearer m k' k
   -- any settled log of the content is this one
@@ -84,7 +84,7 @@ pub record Computed (m : Meaning) (c : Content) : Type 0 where
   -- the recorded reading of a settled log is what `found` finds
   pub some : (log : List Record) → Settled m c log → (k : ℕ) (vs : List Move) → RecordedReading m c log k vs ↔ ((i : ℕ) × (found m c log ≡ Some (record { row = i; cost = k; moves = vs })))
   -- there is none exactly if `found` finds none
-  pub none : (log : List Record) → Settled m c log → NoReading m c log ↔ (found m c log ≡ None)
+  pub none : (log : List Record) → Settled m c log → HasNoReading m c log ↔ (found m c log ≡ None)
 
 -- Of every sound content the above holds.
 abbrev pub SettlingComputed : Type 0

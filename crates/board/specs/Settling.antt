@@ -152,9 +152,9 @@ pub record RecordedReading (m : Meaning) (c : Content) (log : List Record) (k : 
   pub least : (i n : ℕ) (ws : List Move) → ReadingBy m c log i n ws → Cheaper m k n ⊎ ((k ≡ n) × (last ≤ i))
 
 -- no reading costs less than the worst
-abbrev pub NoReading : Meaning → Content → List Record → Type 0
-NoReading m c log = (i n : ℕ) (ws : List Move) → ReadingBy m c log i n ws → NoDearer m m.worst n
+abbrev pub HasNoReading : Meaning → Content → List Record → Type 0
+HasNoReading m c log = (i n : ℕ) (ws : List Move) → ReadingBy m c log i n ws → NoDearer m m.worst n
 
 -- the answer: the cost of the recorded reading, or the worst where there is none
 abbrev pub Answer : Meaning → Content → List Record → ℕ → Type 0
-Answer m c log k = ((vs : List Move) × RecordedReading m c log k vs) ⊎ (NoReading m c log × (k ≡ m.worst))
+Answer m c log k = ((vs : List Move) × RecordedReading m c log k vs) ⊎ (HasNoReading m c log × (k ≡ m.worst))

@@ -1,5 +1,6 @@
 -- What one call more after a history gives, from what it makes of the board.
 use Rattle.std.proofs.Common.{◌≡◌, ℕ, List, [], ◌∷◌, ◌++◌, sym, refl, ap, ◌∙◌, subst}
+use Rattle.costs.specs.declared.kind.Kind.{Ghosts}
 use Rattle.costs.specs.Meaning.{Meaning, Lawful}
 use Rattle.board.specs.declared.draft.Draft.{Draft}
 use Rattle.board.specs.declared.settled.Settled.{Settled}
@@ -19,7 +20,7 @@ use Rattle.file.proofs.Sounding.{state_sound}
 use Rattle.file.proofs.Promising.{state_split, main_promise}
 
 -- what `step` ensures
-pub record Step {K : Type 0} (m : Meaning) (b : Board K) (x : Call) (buffer : List ℕ) (after : Board K) (told : Told) (left : List ℕ) : Type 0 where
+pub record Step {K : Type 0} {k : Ghosts K} (m : Meaning) (b : Board K k) (x : Call) (buffer : List ℕ) (after : Board K k) (told : Told) (left : List ℕ) : Type 0 where
   pub state : state_of after ≡ stepped m (state_of b) x
   pub answer : told ≡ step_answer m (state_of b) (records_of b) x buffer
   pub written : left ≡ step_buffer m (state_of b) (records_of b) x buffer
@@ -87,12 +88,12 @@ settled_told m c log (call.Between s q) buffer other = refl
 settled_told m c log (call.Check moves) buffer other = refl
 settled_told m c log call.Reopen buffer other = absurd (other refl)
 
-module _ {K : Type 0} {m : Meaning} (laws : Lawful m) where
+module _ {K : Type 0} {k : Ghosts K} {m : Meaning} (laws : Lawful m) where
   -- the records are the defined ones where they were before
-  abbrev Kept : Board K → Board K → Type 0
+  abbrev Kept : Board K k → Board K k → Type 0
   Kept b after = Sound m (content (state_of b)) → records_of b ≡ defined_records m (state_of b) → records_of after ≡ defined_records m (state_of after)
 
-  follows : (b : Board K) (x : Call) (buffer : List ℕ) (after : Board K) (told : Told) (left : List ℕ) → state_of after ≡ stepped m (state_of b) x → told ≡ step_answer m (state_of b) (records_of b) x buffer → left ≡ step_buffer m (state_of b) (records_of b) x buffer → Kept b after → Step m b x buffer after told left
+  follows : (b : Board K k) (x : Call) (buffer : List ℕ) (after : Board K k) (told : Told) (left : List ℕ) → state_of after ≡ stepped m (state_of b) x → told ≡ step_answer m (state_of b) (records_of b) x buffer → left ≡ step_buffer m (state_of b) (records_of b) x buffer → Kept b after → Step m b x buffer after told left
   follows b x buffer after told left state answer written kept = record {
     state = state;
     answer = answer;
@@ -108,24 +109,24 @@ module _ {K : Type 0} {m : Meaning} (laws : Lawful m) where
         };
   }
 
-  pub edits : (b : Board K) (d e : Draft K) (x : Call) (buffer : List ℕ) (told : Told) → b ≡ board.Drafted d → (x ≡ call.Settle → ⊥) → draft_content e ≡ edited m (draft_content d) x → told ≡ draft_answer m (draft_content d) x → Step m b x buffer (board.Drafted e) told buffer
+  pub edits : (b : Board K k) (d e : Draft K) (x : Call) (buffer : List ℕ) (told : Told) → b ≡ board.Drafted d → (x ≡ call.Settle → ⊥) → draft_content e ≡ edited m (draft_content d) x → told ≡ draft_answer m (draft_content d) x → Step m b x buffer (board.Drafted e) told buffer
   edits b d e x buffer told is other after answer =
-      subst (λ (b : Board K). Step m b x buffer (board.Drafted e) told buffer) (sym is)
+      subst (λ (b : Board K k). Step m b x buffer (board.Drafted e) told buffer) (sym is)
       (follows (board.Drafted d) x buffer (board.Drafted e) told buffer (ap draft after ∙ sym (draft_rest m (draft_content d) x other)) (answer ∙ sym (draft_told m (draft_content d) x other)) refl (λ _ _. refl))
 
-  pub settles_it : (b : Board K) (d : Draft K) (s : Settled K) (x : Call) (buffer : List ℕ) → b ≡ board.Drafted d → x ≡ call.Settle → settled_content s ≡ draft_content d → (Sound m (draft_content d) → settled_records s ≡ settled_log m (draft_content d)) → Step m b x buffer (board.Settled s) settles buffer
+  pub settles_it : (b : Board K k) (d : Draft K) (s : Settled K k) (x : Call) (buffer : List ℕ) → b ≡ board.Drafted d → x ≡ call.Settle → settled_content s ≡ draft_content d → (Sound m (draft_content d) → settled_records s ≡ settled_log m (draft_content d)) → Step m b x buffer (board.Settled s) settles buffer
   settles_it b d s x buffer is at same computed =
-      subst (λ (b : Board K). Step m b x buffer (board.Settled s) settles buffer) (sym is)
+      subst (λ (b : Board K k). Step m b x buffer (board.Settled s) settles buffer) (sym is)
       (subst (λ (y : Call). Step m (board.Drafted d) y buffer (board.Settled s) settles buffer) (sym at)
       (follows (board.Drafted d) call.Settle buffer (board.Settled s) settles buffer (ap settled same) refl refl (λ sound _. computed sound ∙ ap (settled_log m) (sym same))))
 
-  pub asks_it : (b : Board K) (s : Settled K) (x : Call) (buffer : List ℕ) (told : Told) (left : List ℕ) → b ≡ board.Settled s → (x ≡ call.Reopen → ⊥) → told ≡ settled_answer m (settled_content s) (settled_records s) x buffer → left ≡ settled_buffer m (settled_content s) (settled_records s) x buffer → Step m b x buffer (board.Settled s) told left
+  pub asks_it : (b : Board K k) (s : Settled K k) (x : Call) (buffer : List ℕ) (told : Told) (left : List ℕ) → b ≡ board.Settled s → (x ≡ call.Reopen → ⊥) → told ≡ settled_answer m (settled_content s) (settled_records s) x buffer → left ≡ settled_buffer m (settled_content s) (settled_records s) x buffer → Step m b x buffer (board.Settled s) told left
   asks_it b s x buffer told left is other answer written =
-      subst (λ (b : Board K). Step m b x buffer (board.Settled s) told left) (sym is)
+      subst (λ (b : Board K k). Step m b x buffer (board.Settled s) told left) (sym is)
       (follows (board.Settled s) x buffer (board.Settled s) told left (sym (settled_rest (settled_content s) x other)) (answer ∙ sym (settled_told m (settled_content s) (settled_records s) x buffer other)) written (λ _ h. h))
 
-  pub reopens_it : (b : Board K) (s : Settled K) (d : Draft K) (x : Call) (buffer : List ℕ) → b ≡ board.Settled s → x ≡ call.Reopen → draft_content d ≡ settled_content s → Step m b x buffer (board.Drafted d) reopened buffer
+  pub reopens_it : (b : Board K k) (s : Settled K k) (d : Draft K) (x : Call) (buffer : List ℕ) → b ≡ board.Settled s → x ≡ call.Reopen → draft_content d ≡ settled_content s → Step m b x buffer (board.Drafted d) reopened buffer
   reopens_it b s d x buffer is at same =
-      subst (λ (b : Board K). Step m b x buffer (board.Drafted d) reopened buffer) (sym is)
+      subst (λ (b : Board K k). Step m b x buffer (board.Drafted d) reopened buffer) (sym is)
       (subst (λ (y : Call). Step m (board.Settled s) y buffer (board.Drafted d) reopened buffer) (sym at)
       (follows (board.Settled s) call.Reopen buffer (board.Drafted d) reopened buffer (ap draft same) refl refl (λ _ _. refl)))

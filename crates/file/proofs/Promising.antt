@@ -11,7 +11,7 @@ use Rattle.board.specs.Refusals.{unless}
 use Rattle.board.specs.Ease.{Eased, CallsEase}
 use Rattle.board.specs.Packing.{packed}
 use Rattle.board.specs.Paths.{Complete}
-use Rattle.board.specs.Settling.{Record, Settled, RecordedReading, NoReading, Answer}
+use Rattle.board.specs.Settling.{Record, Settled, RecordedReading, HasNoReading, Answer}
 use Rattle.board.specs.Computing.{ReadingFound, found, settled_log}
 use Rattle.board.specs.Questions.{cost_told as told_of, path_told as path_of, path_written, fits}
 use Rattle.board.specs.Promises.{BoardPromises, Cheapest, Computed, NoneBelow}
@@ -49,7 +49,7 @@ module _ {m : Meaning} (laws : Lawful m) (promises : BoardPromises) where
     recorded : (f : ReadingFound) → found m c (settled_log m c) ≡ Some f → RecordedReading m c (settled_log m c) f.cost f.moves
     recorded f e = (computed.some (settled_log m c) computed.settled f.cost f.moves).1 (f.row, e)
 
-    unread : found m c (settled_log m c) ≡ None → NoReading m c (settled_log m c)
+    unread : found m c (settled_log m c) ≡ None → HasNoReading m c (settled_log m c)
     unread e = (computed.none (settled_log m c) computed.settled).1 e
 
     -- path by whether the reading fits

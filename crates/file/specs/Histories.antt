@@ -1,5 +1,6 @@
 -- A board after a history of calls, and what one call more makes of it.
 use Rattle.std.specs.Prelude.{◌≡◌, ℕ, List, [], ◌∷◌, ◌++◌}
+use Rattle.costs.specs.declared.kind.Kind.{Ghosts}
 use Rattle.costs.specs.Meaning.{Meaning}
 use Rattle.board.specs.Held.{draft_content}
 use Rattle.board.specs.Boards.{settled_content, settled_records}
@@ -14,11 +15,11 @@ use Rattle.file.specs.Told.{Told, step_answer, step_buffer}
 use Rattle.file.specs.Promise.{MainPromise}
 
 -- the state of a board, and the records it holds
-abbrev pub state_of : {K : Type 0} → Board K → State
+abbrev pub state_of : {K : Type 0} {k : Ghosts K} → Board K k → State
 state_of (board.Drafted d) = draft (draft_content d)
 state_of (board.Settled s) = settled (settled_content s)
 
-abbrev pub records_of : {K : Type 0} → Board K → List Record
+abbrev pub records_of : {K : Type 0} {k : Ghosts K} → Board K k → List Record
 records_of (board.Drafted d) = []
 records_of (board.Settled s) = settled_records s
 
@@ -29,14 +30,14 @@ defined_records m (settled c) = settled_log m c
 
 -- The board is what these calls make of a new one: it stands in their state and holds exactly the defined records. What
 -- the board crate promises over contents stands beside it.
-pub record Holds {K : Type 0} (m : Meaning) (calls : List Call) (b : Board K) : Type 0 where
+pub record Holds {K : Type 0} {k : Ghosts K} (m : Meaning) (calls : List Call) (b : Board K k) : Type 0 where
   pub state : state_of b ≡ state_after m calls
   pub records : records_of b ≡ defined_records m (state_after m calls)
   pub promises : BoardPromises
 
 -- One call more after a history: the board is what all these calls make of a new one, the answer and the buffer are the
 -- defined ones, and the main promise holds of the whole list.
-pub record Follows {K : Type 0} (m : Meaning) (calls : List Call) (x : Call) (buffer : List ℕ) (after : Board K) (told : Told) (left : List ℕ) : Type 0 where
+pub record Follows {K : Type 0} {k : Ghosts K} (m : Meaning) (calls : List Call) (x : Call) (buffer : List ℕ) (after : Board K k) (told : Told) (left : List ℕ) : Type 0 where
   pub holds : Holds m (calls ++ (x ∷ [])) after
   pub answered : told ≡ step_answer m (state_after m calls) (defined_records m (state_after m calls)) x buffer
   pub written : left ≡ step_buffer m (state_after m calls) (defined_records m (state_after m calls)) x buffer

@@ -28,20 +28,20 @@ pub returns-in-Err : goal.returns-in-Err
 returns-in-Err g c =
     let bs = c.args.bytes.now in
     let long : 4 ≤ length bs = omega (arith, ltb-false) in
-    let w : c.from-be-bytes.result ≡ word4 bs = omega arith in
+    let w : c.from_be_bytes.result ≡ word4 bs = omega arith in
     record {
-      after = sym (header_refused g.K.Kind.meaning bs c.from-be-bytes.result (draft_content c.args.draft.now) long w _ c.in-Err.ensures);
+      after = sym (header_refused g.K.Kind.meaning bs c.from_be_bytes.result (draft_content c.args.draft.now) long w _ c.in-Err.ensures);
       kept = λ s. s;
     }
 
-pub returns-in-Err-size-draft : goal.returns-in-Err-size-draft
-returns-in-Err-size-draft g c =
+pub returns-in-Err-size_draft : goal.returns-in-Err-size_draft
+returns-in-Err-size_draft g c =
     let bs = c.args.bytes.now in
     let long : 4 ≤ length bs = omega (arith, ltb-false) in
-    let w : c.from-be-bytes.result ≡ word4 bs = omega arith in
-    let h = c.in-Err-size-draft.ensures in
+    let w : c.from_be_bytes.result ≡ word4 bs = omega arith in
+    let h = c.in-Err-size_draft.ensures in
     record {
-      after = sym (size_refused g.K.Kind.meaning bs c.from-be-bytes.result (draft_content c.args.draft.now) long w c.in-Ok.header _ c.in-Ok.ensures h.after);
+      after = sym (size_refused g.K.Kind.meaning bs c.from_be_bytes.result (draft_content c.args.draft.now) long w c.in-Ok.header _ c.in-Ok.ensures h.after);
       kept = h.kept;
     }
 
@@ -49,13 +49,13 @@ pub returns : goal.returns
 returns g c =
     let bs = c.args.bytes.now in
     let long : 4 ≤ length bs = omega (arith, ltb-false) in
-    let w : c.from-be-bytes.result ≡ word4 bs = omega arith in
+    let w : c.from_be_bytes.result ≡ word4 bs = omega arith in
     let none : take (length bs - length bs) (drop (length bs) bs) ≡ [] = take_rest bs (length bs) ∙ drop_all (length bs) bs (omega arith) in
-    let h = c.in-default-size-draft.ensures in
+    let h = c.in_default-size_draft.ensures in
     record {
       after =
-          c.add-sections.ensures.after
-          ∙ (same_start g.K.Kind.meaning c.in-Ok.header.trust bs _ _ (draft_content c.size-draft.new.draft) (take_rest bs 4) none
-          ∙ sym (header_taken g.K.Kind.meaning bs c.from-be-bytes.result (draft_content c.args.draft.now) long w c.in-Ok.header _ c.in-Ok.ensures h.after));
-      kept = λ s. c.add-sections.ensures.kept (h.kept s);
+          c.add_sections.ensures.after
+          ∙ (same_start g.K.Kind.meaning c.in-Ok.header.trust bs _ _ (draft_content c.size_draft.new.draft) (take_rest bs 4) none
+          ∙ sym (header_taken g.K.Kind.meaning bs c.from_be_bytes.result (draft_content c.args.draft.now) long w c.in-Ok.header _ c.in-Ok.ensures h.after));
+      kept = λ s. c.add_sections.ensures.kept (h.kept s);
     }

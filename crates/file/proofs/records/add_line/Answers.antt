@@ -14,8 +14,8 @@ returns-in-Ok g c =
     record {
       after =
           line_added_ok m before _ _ _ _ h.answer h.after
-          ∙ (ap (λ (k : ℕ). line_added m before (line_at_cost k c.in-ok-line.line)) c.trusted-cost-cost.ensures
-          ∙ sym (goes_on _ _ (λ (l : Line). line_added m before (trusted_line m c.args.trust l)) c.in-ok-line.ensures));
+          ∙ (ap (λ (k : ℕ). line_added m before (line_at_cost k c.in_ok-line.line)) c.trusted_cost-cost.ensures
+          ∙ sym (goes_on _ _ (λ (l : Line). line_added m before (trusted_line m c.args.trust l)) c.in_ok-line.ensures));
       kept = h.kept;
     }
 
@@ -27,7 +27,7 @@ returns-in-Err g c =
     record {
       after =
           line_added_err m before before _ _ _ h.answer
-          ∙ (ap (λ (k : ℕ). line_added m before (line_at_cost k c.in-ok-line.line)) c.trusted-cost-cost.ensures
-          ∙ sym (goes_on _ _ (λ (l : Line). line_added m before (trusted_line m c.args.trust l)) c.in-ok-line.ensures));
+          ∙ (ap (λ (k : ℕ). line_added m before (line_at_cost k c.in_ok-line.line)) c.trusted_cost-cost.ensures
+          ∙ sym (goes_on _ _ (λ (l : Line). line_added m before (trusted_line m c.args.trust l)) c.in_ok-line.ensures));
       kept = h.kept;
     }

@@ -9,11 +9,11 @@ use Rattle.file.proofs.records.add_records.Goals as goal
 pub loop-init : goal.loop-init
 loop-init g c = let z : c.args.count - 0 ≡ c.args.count = omega arith in (rw z, c.requires, λ s. s)
 
-pub returns-in-default : goal.returns-in-default
-returns-in-default g c =
+pub returns-in_default : goal.returns-in_default
+returns-in_default g c =
     let i = c.loop.invariant in
     record {
-      after = sym (records_cut g.K.Kind.meaning c.args.trust c.args.kind c.loop.rest.now c.loop.place (draft_content c.loop.draft) (c.args.count - c.loop.counter) (omega arith) c.in-default.ensures) ∙ i.0;
+      after = sym (records_cut g.K.Kind.meaning c.args.trust c.args.kind c.loop.rest.now c.loop.place (draft_content c.loop.draft) (c.args.count - c.loop.counter) (omega arith) c.in_default.ensures) ∙ i.0;
       kept = i.2;
     }
 
@@ -27,14 +27,14 @@ returns-in-Err g c =
       kept = λ s. c.in-Err.ensures.kept (i.2 s);
     }
 
-pub overflow-add-place : goal.overflow-add-place
-overflow-add-place g c = let h = c.in-Some.ensures in omega arith
+pub overflow_add-place : goal.overflow_add-place
+overflow_add-place g c = let h = c.in-Some.ensures in omega arith
 
 pub loop-preserved : goal.loop-preserved
 loop-preserved g c =
     let i = c.loop.invariant in
     let h = c.in-Some.ensures in
-    let r : record_added g.K.Kind.meaning c.args.trust c.args.kind (draft_content c.loop.draft) (word8 c.loop.rest.now) ≡ Ok (draft_content c.add-record.new.draft) = rw (← h.1) (sym c.in-Ok.ensures.after) in
+    let r : record_added g.K.Kind.meaning c.args.trust c.args.kind (draft_content c.loop.draft) (word8 c.loop.rest.now) ≡ Ok (draft_content c.add_record.new.draft) = rw (← h.1) (sym c.in-Ok.ensures.after) in
     let more = records_more g.K.Kind.meaning c.args.trust c.args.kind c.loop.rest.now c.loop.place (draft_content c.loop.draft) (c.args.count - c.loop.counter) (c.args.count - (c.loop.counter + 1)) _ (omega arith) h.0 r in
     (rw h.2 (sym more ∙ i.0), rw (h.2, length-drop 8 c.loop.rest.now) (omega arith), λ s. c.in-Ok.ensures.kept (i.2 s))
 

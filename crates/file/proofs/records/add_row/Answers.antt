@@ -10,7 +10,7 @@ returns-in-Ok g c =
     let before = draft_content c.args.draft.now in
     let h = c.in-Ok.ensures in
     record {
-      after = row_added_ok m before _ _ _ _ h.answer h.after ∙ sym (goes_on _ _ (row_added m before) c.in-ok-row.ensures);
+      after = row_added_ok m before _ _ _ _ h.answer h.after ∙ sym (goes_on _ _ (row_added m before) c.in_ok-row.ensures);
       kept = h.kept;
     }
 
@@ -20,6 +20,6 @@ returns-in-Err g c =
     let before = draft_content c.args.draft.now in
     let h = c.in-Err.ensures in
     record {
-      after = row_added_err m before before _ _ _ h.answer ∙ sym (goes_on _ _ (row_added m before) c.in-ok-row.ensures);
+      after = row_added_err m before before _ _ _ h.answer ∙ sym (goes_on _ _ (row_added m before) c.in_ok-row.ensures);
       kept = h.kept;
     }

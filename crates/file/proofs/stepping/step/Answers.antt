@@ -8,10 +8,10 @@ returns-in-Settle g c =
     let r = settles_it g.met.K.Kind.lawful c.args.board c.in-Drafted.draft c.settle.result c.args.call c.args.buffer.now c.in-Drafted.is c.in-Settle.is s.content s.computed in
     record { state = r.state; answer = r.answer; after = r.written; history = r.history }
 
-pub returns-in-default : goal.returns-in-default
-returns-in-default g c =
+pub returns-in_default : goal.returns-in_default
+returns-in_default g c =
     let e = c.edit-answer in
-    let r = edits g.met.K.Kind.lawful c.args.board c.in-Drafted.draft e.new.draft c.args.call c.args.buffer.now (heard e.result) c.in-Drafted.is c.in-default.not-Settle e.ensures.after e.ensures.answer in
+    let r = edits g.met.K.Kind.lawful c.args.board c.in-Drafted.draft e.new.draft c.args.call c.args.buffer.now (heard e.result) c.in-Drafted.is c.in_default.not-Settle e.ensures.after e.ensures.answer in
     record { state = r.state; answer = r.answer; after = r.written; history = r.history }
 
 pub returns-in-Reopen : goal.returns-in-Reopen
@@ -19,8 +19,8 @@ returns-in-Reopen g c =
     let r = reopens_it g.met.K.Kind.lawful c.args.board c.in-Settled.settled c.reopen.result c.args.call c.args.buffer.now c.in-Settled.is c.in-Reopen.is c.reopen.ensures.content in
     record { state = r.state; answer = r.answer; after = r.written; history = r.history }
 
-pub returns-in-default-call : goal.returns-in-default-call
-returns-in-default-call g c =
+pub returns-in_default-call : goal.returns-in_default-call
+returns-in_default-call g c =
     let a = c.ask-answer in
-    let r = asks_it g.met.K.Kind.lawful c.args.board c.in-Settled.settled c.args.call c.args.buffer.now (heard a.result) a.new.buffer c.in-Settled.is c.in-default-call.not-Reopen a.ensures.answer a.ensures.after in
+    let r = asks_it g.met.K.Kind.lawful c.args.board c.in-Settled.settled c.args.call c.args.buffer.now (heard a.result) a.new.buffer c.in-Settled.is c.in_default-call.not-Reopen a.ensures.answer a.ensures.after in
     record { state = r.state; answer = r.answer; after = r.written; history = r.history }

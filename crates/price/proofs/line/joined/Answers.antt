@@ -11,8 +11,8 @@ within g c =
     let inside = no_cost_within g.K.Kind.meaning c.args.numbers.now c.in-Err.i (sym c.in-Err.ensures.answer) in
     omega (arith, c.requires)
 
-pub offset-bounds-words-i : goal.offset-bounds-words-i
-offset-bounds-words-i g c = let inside = within g c in omega arith
+pub offset_bounds-words-i : goal.offset_bounds-words-i
+offset_bounds-words-i g c = let inside = within g c in omega arith
 
 pub bounds-words-i : goal.bounds-words-i
 bounds-words-i g c = within g c

@@ -19,7 +19,7 @@ loop-word-preserved c =
     let words = c.args.words.now in
     let i = c.loop-word.word-index in
     let here = get_or-map (λ x. x.now) words i _ [] c.loop-word-test.true in
-    ap (λ ns. after ns (read_costs (drop (i + 1) (map (λ x. x.now) words)))) c.in-ok-push.ensures.items
+    ap (λ ns. after ns (read_costs (drop (i + 1) (map (λ x. x.now) words)))) c.in_ok-push-in-Some.ensures.items
     ∙ number_next (map (λ x. x.now) words) i (omega (arith, length-map words (λ x. x.now))) (vec_items c.loop-word.numbers) c.in-Some.n (ap (number_of largest) here ∙ sym c.in-Some.ensures.value)
     ∙ c.loop-word.invariant
 

@@ -9,6 +9,6 @@ returns c =
     c.args.label.now
     c.args.word.now
     _ _ _ _
-    c.in-ok-extend-from-slice.ensures.items
-    c.in-ok-extend-from-slice-2.ensures.items
-    c.in-ok-extend-from-slice-3.ensures.items
+    c.in_ok-extend_from_slice.ensures.items
+    c.in_ok-extend_from_slice-2.ensures.items
+    c.in_ok-extend_from_slice-3.ensures.items

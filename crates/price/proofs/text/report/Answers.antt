@@ -5,35 +5,35 @@ use Rattle.price.specs.Report.{printed, line_printed}
 use Rattle.price.proofs.Printing.{line_next, lines_end, line_by_line}
 use Rattle.price.proofs.text.report.Goals as goal
 
-pub returns-in-err-lines : goal.returns-in-err-lines
-returns-in-err-lines c = record { made = search rules; line_by_line = line_by_line }
+pub returns-in_err-lines : goal.returns-in_err-lines
+returns-in_err-lines c = record { made = search rules; line_by_line = line_by_line }
 
-pub returns-in-err-answer : goal.returns-in-err-answer
-returns-in-err-answer c = record { made = search rules; line_by_line = line_by_line }
+pub returns-in_err-answer : goal.returns-in_err-answer
+returns-in_err-answer c = record { made = search rules; line_by_line = line_by_line }
 
-pub returns-in-err-push-answer : goal.returns-in-err-push-answer
-returns-in-err-push-answer c = record { made = search rules; line_by_line = line_by_line }
+pub returns-in_err-push_answer : goal.returns-in_err-push_answer
+returns-in_err-push_answer c = record { made = search rules; line_by_line = line_by_line }
 
 pub loop-line-init : goal.loop-line-init
 loop-line-init c =
-    ap (λ out. out ++ flat_map line_printed (map (λ x. x.now) c.as-slice-line-items.result.now)) c.new-out.ensures.items
-    ∙ ap (λ lines. flat_map line_printed (map (λ x. x.now) lines)) c.as-slice-line-items.ensures.value
-    ∙ ap (flat_map line_printed) c.in-ok-lines.ensures.made
+    ap (λ out. out ++ flat_map line_printed (map (λ x. x.now) c.as_slice-line-items.result.now)) c.new-out.ensures.items
+    ∙ ap (λ lines. flat_map line_printed (map (λ x. x.now) lines)) c.as_slice-line-items.ensures.value
+    ∙ ap (flat_map line_printed) c.in_ok-lines.ensures.made
 
 pub loop-line-preserved : goal.loop-line-preserved
 loop-line-preserved c =
-    let lines = c.as-slice-line-items.result.now in
+    let lines = c.as_slice-line-items.result.now in
     let i = c.loop-line.line-index in
     let out = vec_items c.loop-line.out in
     let here = get_or-map (λ x. x.now) lines i _ [] c.loop-line-test.true in
-    let pushed = c.in-ok-push-answer.ensures ∙ ap (λ a. out ++ printed a) c.in-ok-answer.ensures.made ∙ ap (λ l. out ++ line_printed l) (sym here) in
+    let pushed = c.in_ok-push_answer.ensures ∙ ap (λ a. out ++ printed a) c.in_ok-answer.ensures.made ∙ ap (λ l. out ++ line_printed l) (sym here) in
     ap (λ o. o ++ flat_map line_printed (drop (i + 1) (map (λ x. x.now) lines))) pushed
     ∙ line_next (map (λ x. x.now) lines) i out (omega (arith, length-map lines (λ x. x.now)))
     ∙ c.loop-line.invariant
 
 pub returns : goal.returns
 returns c =
-    let lines = c.as-slice-line-items.result.now in
+    let lines = c.as_slice-line-items.result.now in
     record {
       made = sym (lines_end (map (λ x. x.now) lines) c.loop-line.line-index (vec_items c.loop-line.out) (omega (arith, length-map lines (λ x. x.now)))) ∙ c.loop-line.invariant;
       line_by_line = line_by_line;

@@ -27,11 +27,11 @@ worked = record {
 
 pub returns : goal.returns
 returns g c =
-    let h = c.load-draft.ensures in
+    let h = c.load_draft.ensures in
     record {
       answer = h.answer;
       after = h.after;
       sound = h.sound;
-      exact = exactly g.K.Kind.meaning c.args.bytes.now _ _ (λ i. omega (arith, c.type-inv.bytes i)) h.answer h.after;
+      exact = exactly g.K.Kind.meaning c.args.bytes.now _ _ (λ i. omega (arith, c.type_inv.bytes i)) h.answer h.after;
       examples = worked;
     }

@@ -30,14 +30,14 @@ returns-in-Ok c =
     let rest = take (length bs - 2) (drop 2 bs) in
     let long : 2 ≤ length bs = omega (arith, ltb-false) in
     let whole = take_rest bs 2 in
-    let code : c.read-head-head.result.code ≡ head_code bs = c.read-head-head.ensures.code ∙ ap (λ w. field w 12 4) c.from-be-bytes.ensures in
-    let count : c.read-head-head.result.count ≡ head_count bs = c.read-head-head.ensures.count ∙ ap (λ w. field w 0 12) c.from-be-bytes.ensures in
+    let code : c.read_head-head.result.code ≡ head_code bs = c.read_head-head.ensures.code ∙ ap (λ w. field w 12 4) c.from_be_bytes.ensures in
+    let count : c.read_head-head.result.count ≡ head_count bs = c.read_head-head.ensures.count ∙ ap (λ w. field w 0 12) c.from_be_bytes.ensures in
     let size : c.section_size.result ≡ head_size bs = rw (← code, ← count) c.section_size.ensures in
     let cut : n ≡ min (head_size bs) (length rest) = rw (← size) c.min-size.ensures in
     let at = c.in-Ok.ensures.answer in
-    let stage : c.admit.new.self.awaited ≡ stage_after r.awaited c.read-head-head.result.code = ap (λ (x : Reading). x.awaited) c.in-Ok.ensures.after in
+    let stage : c.admit.new.self.awaited ≡ stage_after r.awaited c.read_head-head.result.code = ap (λ (x : Reading). x.awaited) c.in-Ok.ensures.after in
     let on : r.left.place + 2 + n ≡ (past r.left).place = omega (arith, ap length whole, length-drop 2 bs) in
     record {
       answer = admits r _ _ _ (take (n - 0) rest) long code count (cut_front n (head_size bs) (drop 2 bs) rest whole cut) at;
-      after = passes r _ _ _ c.read-head-head.result.count _ _ _ long code at stage (cut_back n (head_size bs) (drop 2 bs) rest whole cut) on;
+      after = passes r _ _ _ c.read_head-head.result.count _ _ _ long code at stage (cut_back n (head_size bs) (drop 2 bs) rest whole cut) on;
     }
