@@ -11,7 +11,7 @@ loop-packed-preserved g c =
     let f = packed_line (settled_content c.args.settled.now) in
     let i = c.loop-packed.packed-index in
     let out = vec_items c.loop-packed.out in
-    ap (λ o. o ++ flat_map f (drop (i + 1) moves)) c.in-ok-push-move.ensures
+    ap (λ o. o ++ flat_map f (drop (i + 1) moves)) c.in_ok-push_move.ensures
     ∙ append_assoc out (f (get_or moves i 0)) (flat_map f (drop (i + 1) moves))
     ∙ ap (λ l. out ++ flat_map f l) (sym (drop_more moves i 0 c.loop-packed-test.true))
     ∙ c.loop-packed.invariant

@@ -4,12 +4,12 @@ use Rattle.script.specs.Runs.{run_of, run_moves, runs_of, not_too_long}
 use Rattle.script.proofs.Repeating.{after, run_next, run_stop, run_too_long, runs_end}
 use Rattle.script.proofs.check.moves.Goals as goal
 
-pub returns-in-default : goal.returns-in-default
-returns-in-default c =
+pub returns-in_default : goal.returns-in_default
+returns-in_default c =
     let words = c.args.words.now in
     let i = c.loop-word.word-index in
     let here = get_or-map (λ x. x.now) words i _ [] c.loop-word-test.true in
-    sym (run_stop (map (λ x. x.now) words) i (omega (arith, length-map words (λ x. x.now))) (vec_items c.loop-word.list) (ap run_of here ∙ sym c.in-default.ensures))
+    sym (run_stop (map (λ x. x.now) words) i (omega (arith, length-map words (λ x. x.now))) (vec_items c.loop-word.list) (ap run_of here ∙ sym c.in_default.ensures))
     ∙ c.loop-word.invariant.1
 
 pub returns-then-next-len : goal.returns-then-next-len
@@ -30,8 +30,8 @@ loop-word-preserved c =
     let run = c.in-Some.next in
     let here = get_or-map (λ x. x.now) words i _ [] c.loop-word-test.true in
     let left = runs_of (drop (i + 1) (map (λ x. x.now) words)) in (
-      omega (arith, ap length c.in-ok-push-run.ensures, length-append list (run_moves run), length-replicate run.times run.number, c.loop-word.list.ok.0, c.push-run.new.list.ok.0),
-      ap (λ l. not_too_long (after l left)) c.in-ok-push-run.ensures
+      omega (arith, ap length c.in_ok-push_run.ensures, length-append list (run_moves run), length-replicate run.times run.number, c.loop-word.list.ok.0, c.push_run.new.list.ok.0),
+      ap (λ l. not_too_long (after l left)) c.in_ok-push_run.ensures
           ∙ run_next (map (λ x. x.now) words) i (omega (arith, length-map words (λ x. x.now))) list run (ap run_of here ∙ sym c.in-Some.ensures)
           ∙ c.loop-word.invariant.1,
     )

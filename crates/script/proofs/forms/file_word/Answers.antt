@@ -8,5 +8,5 @@ returns-in-empty c = file_none c.args.words.now (omega (arith, ltb-true))
 pub returns-in-len1 : goal.returns-in-len1
 returns-in-len1 c = file_one c.args.words.now _ (omega (arith, ltb-true, ltb-false))
 
-pub returns-in-default : goal.returns-in-default
-returns-in-default c = file_more c.args.words.now (omega (arith, ltb-false))
+pub returns-in_default : goal.returns-in_default
+returns-in_default c = file_more c.args.words.now (omega (arith, ltb-false))
