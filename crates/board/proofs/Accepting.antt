@@ -1,5 +1,5 @@
 -- The check accepts exactly the complete readings with at most 4,096 brackets open at any time.
-use Rattle.std.proofs.Common.{◌≡◌, ℕ, zero, suc, ◌+◌, ◌<◌, ◌≤◌, Bool, true, false, cond, not, ◌||◌, eqb, ltb, ◌⊎◌, ◌↔◌, List, [], ◌∷◌, ◌++◌, map, length, Some, None, Ok, Err, Option, Result, sym, refl, ap, ◌∙◌, subst, inl, inr, ⊎_elim, arith}
+use Rattle.std.proofs.Common.{◌≡◌, ℕ, suc, ◌<◌, ◌≤◌, Bool, true, false, cond, eqb, ltb, ◌↔◌, List, [], ◌∷◌, ◌++◌, map, length, Some, None, Ok, Err, Option, Result, sym, refl, ap, ◌∙◌, subst, arith}
 use Rattle.std.proofs.lemmas.Bool.{both_ways, or_parts, or_from, not-false, not_from_true, ltb-true, lt-ltb, cond-true, cond-false}
 use Rattle.costs.specs.Meaning.{Meaning}
 use Rattle.costs.specs.Lists.{joined_onto}
@@ -10,12 +10,11 @@ use Rattle.board.specs.declared.moves.Arrival.{Arrival}
 use Rattle.board.specs.declared.named.Named.{Named}
 use Rattle.board.specs.declared.refusal.Refusal.{Refusal}
 use Rattle.board.specs.declared.refusal.Refusal.TheVariants.{TooDeep, BadBracket}
-use Rattle.board.specs.declared.check.Fault.{Fault}
 use Rattle.board.specs.Content.{Content}
 use Rattle.board.specs.Moves.{Place, Transition}
-use Rattle.board.specs.Paths.{Path, stop, go, Balanced, stack, Running, Complete}
+use Rattle.board.specs.Paths.{Path, stop, go, stack, Running}
 use Rattle.board.specs.Packing.{unpacked}
-use Rattle.board.specs.Arrivals.{named, starts_at, leads}
+use Rattle.board.specs.Arrivals.{named, leads}
 use Rattle.board.specs.Checks.{bracketed, Progress, start, arrived, take_named, named_by_number, take_move, or_fault, checked_from, check_answer, ShallowFrom, PacksReading}
 use Rattle.board.specs.Moves.{is_end}
 use Rattle.board.proofs.Elements.{no_some}

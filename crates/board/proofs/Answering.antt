@@ -1,10 +1,9 @@
 -- What the answers of a settled board mean.
-use Rattle.std.proofs.Common.{◌≡◌, ℕ, ◌+◌, ◌*◌, ◌/◌, ◌%◌, ◌<◌, ◌≤◌, Bool, true, false, cond, ◌&&◌, ◌||◌, leb, ◌⊎◌, List, ◌++◌, map, length, drop, Some, None, Ok, Err, Option, Result, sym, refl, ap, ◌∙◌, subst, inl, inr, ⊎_elim, mod-lt, mul_comm, div-lt_iff_lt-mul, arith}
+use Rattle.std.proofs.Common.{◌≡◌, ℕ, ◌+◌, ◌*◌, ◌/◌, ◌%◌, ◌<◌, Bool, true, false, cond, ◌&&◌, ◌||◌, leb, ◌⊎◌, List, ◌++◌, map, length, drop, Some, None, Ok, Err, Option, refl, ap, ◌∙◌, inl, inr, ⊎_elim, mod-lt, mul_comm, div-lt_iff_lt-mul, arith}
 use native.Mathlib.Nat.{div-add-mod}
-use Rattle.std.proofs.lemmas.Bool.{cases_Bool, or_cases, or_parts, and_parts, leb-true, leb-false}
+use Rattle.std.proofs.lemmas.Bool.{or_cases, or_parts, and_parts, leb-true, leb-false}
 use Rattle.costs.specs.Meaning.{Meaning, Lawful, NoDearer}
 use Rattle.board.specs.declared.moves.Move.{Move}
-use Rattle.board.specs.declared.refusal.Refusal.{Refusal}
 use Rattle.board.specs.declared.refusal.Refusal.TheVariants.{TooLong, PlaceOut}
 use Rattle.board.specs.Content.{Content, Sound}
 use Rattle.board.specs.Moves.{Place, On, place_number}

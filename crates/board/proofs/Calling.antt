@@ -1,14 +1,12 @@
 -- Finding the fronts and insides of calls by the index.
-use Rattle.std.proofs.Common.{◌≡◌, ℕ, ◌+◌, ◌*◌, ◌<◌, ◌≤◌, ◌⊎◌, List, length, get_or, take, Some, None, Option, sym, refl, ap, ◌∙◌, subst, ap₂, subst₂, inl, inr, ⊎_elim, arith, length-take, get_or-take}
-use Rattle.std.proofs.lemmas.Option.{slice_get-get_or}
+use Rattle.std.proofs.Common.{◌≡◌, ℕ, ◌+◌, ◌*◌, ◌<◌, get_or, take, Some, None, sym, refl, ap, ◌∙◌, subst, ap₂, subst₂, arith}
 use Rattle.board.specs.declared.row.RowKind.TheVariants.{Plain}
 use Rattle.std.specs.List.{slice_get}
 use Rattle.costs.specs.Meaning.{Meaning, Lawful, Cost}
 use Rattle.board.specs.Moves.{Place, Transition, On, place_number, moment, mode}
 use Rattle.board.specs.declared.row.Row.{Row}
 use Rattle.board.specs.declared.moves.Arrival.{Arrival}
-use Rattle.board.specs.declared.moves.Effect.{Effect}
-use Rattle.board.specs.declared.moves.Effect.TheVariants.{Quiet, Opens, Closes}
+use Rattle.board.specs.declared.moves.Effect.TheVariants.{Opens}
 use Rattle.board.specs.Settling.{Record, bare}
 use Rattle.board.proofs.Transitions.{transition_arrival}
 use Rattle.board.proofs.Decomposing.{transition_cost, transition_on}
@@ -16,15 +14,12 @@ use Rattle.board.proofs.Diagonal.{place_eq}
 use Rattle.board.proofs.Elements.{nth_front}
 use Rattle.board.proofs.Membership.{some_eq, none_some}
 use Rattle.board.proofs.Uniqueness.{number_eq, bracket_alone, opens_not_quiet}
-use Rattle.board.specs.declared.log.Entry.{Entry}
 use Rattle.board.specs.declared.log.Log.{Log}
-use Rattle.board.specs.declared.log.Opening.{Opening}
 use Rattle.board.specs.declared.log.Way.{Way}
 use Rattle.board.specs.declared.tables.Tables.{Tables}
 use Rattle.board.specs.Held.{held}
-use Rattle.board.specs.Logs.{numbered, Kept, Book, Ready, Opened, CallBy, CallsIn, CallsTo, CallsAt, CallsFrom, CallsAround}
+use Rattle.board.specs.Logs.{numbered, Ready, Opened, CallsIn, CallsTo, CallsAt, CallsFrom, CallsAround}
 use Rattle.board.proofs.Growing.{number_in}
-use Rattle.board.specs.Content.{Sound}
 
 abbrev pub no_row : Row
 no_row = record { kind = Plain; from = 0; to = 0; label = 0; action = 0; cost = 0 }

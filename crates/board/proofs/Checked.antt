@@ -1,11 +1,10 @@
 -- One move of a check more, and its end.
-use Rattle.std.proofs.Common.{◌≡◌, ℕ, suc, ◌+◌, ◌<◌, ◌≤◌, Bool, true, false, cond, List, [], ◌∷◌, length, get_or, drop, Ok, Err, Result, sym, refl, ap, ◌∙◌, add-one, arith, drop-cons}
+use Rattle.std.proofs.Common.{◌≡◌, ℕ, suc, ◌+◌, ◌<◌, ◌≤◌, true, false, List, length, get_or, drop, Ok, Err, Result, sym, ap, ◌∙◌, add-one, arith, drop-cons}
 use Rattle.costs.specs.Meaning.{Meaning}
 use Rattle.std.proofs.lemmas.Bool.{cond-true, cond-false}
 use Rattle.std.proofs.lemmas.List.{drop_all}
 use Rattle.board.specs.declared.refusal.Refusal.{Refusal}
 use Rattle.board.specs.declared.refusal.Refusal.TheVariants.{NoEnd}
-use Rattle.board.specs.declared.check.Fault.{Fault}
 use Rattle.board.specs.Content.{Content}
 use Rattle.board.specs.Checks.{Progress, take_move, or_fault, checked_from}
 

@@ -1,6 +1,6 @@
 -- The scan of a round.
-use Rattle.std.proofs.Common.{◌≡◌, ℕ, ◌+◌, ◌*◌, ◌<◌, ◌≤◌, Bool, true, false, ◌⊎◌, List, [], ◌∷◌, length, get_or, Some, None, Option, sym, refl, ap, ◌∙◌, subst, ap₂, inl, inr, ⊎_elim, arith}
-use Rattle.std.proofs.lemmas.Bool.{both_ways, cases_Bool, cases_eq, cases_lt}
+use Rattle.std.proofs.Common.{◌≡◌, ℕ, ◌+◌, ◌<◌, ◌≤◌, ◌⊎◌, List, [], get_or, Some, None, Option, sym, refl, ap, ◌∙◌, subst, ap₂, inl, inr, ⊎_elim, arith}
+use Rattle.std.proofs.lemmas.Bool.{cases_eq, cases_lt}
 use Rattle.costs.specs.Meaning.{Meaning, Lawful, Cost, NoDearer}
 use Rattle.board.specs.Settling.{Cheaper, Record, Candidate, Precedes, Lex, key, Unsettled, Round}
 use Rattle.board.specs.Moves.{Place, On, place_number}
@@ -15,7 +15,7 @@ use Rattle.board.specs.declared.log.Log.{Log}
 use Rattle.board.specs.declared.tables.Tables.{Tables}
 use Rattle.board.specs.Held.{held}
 use Rattle.board.specs.Logged.{pair_of, record_of}
-use Rattle.board.specs.Grown.{Refers, Covered}
+use Rattle.board.specs.Grown.{Refers}
 use Rattle.board.specs.Logs.{records, numbered, nth_record, Kept, State, vacant, standing, First, Chosen, limit_of, CostsBest}
 use Rattle.board.proofs.Logging.{in_logged, logged_in, logged_length}
 use Rattle.board.proofs.Growing.{pair_in, pair_parts, number_in}

@@ -1,7 +1,7 @@
 -- The function `found` gives the recorded reading.
-use Rattle.std.proofs.Common.{◌≡◌, ℕ, zero, suc, ◌+◌, ◌*◌, ◌<◌, ◌≤◌, Bool, true, false, cond, ◌&&◌, eqb, ◌⊎◌, List, [], ◌∷◌, ◌++◌, length, Some, None, Option, sym, refl, ap, ◌∙◌, subst, inl, inr, ⊎_elim, arith}
+use Rattle.std.proofs.Common.{◌≡◌, ℕ, zero, suc, ◌<◌, ◌≤◌, Bool, true, false, cond, ◌⊎◌, List, [], ◌∷◌, ◌++◌, length, Some, None, Option, sym, refl, ap, ◌∙◌, subst, inl, inr, ⊎_elim, arith}
 use Rattle.std.specs.List.{slice_get}
-use Rattle.std.proofs.lemmas.Bool.{both_ways, cases_Bool, cases_eq, and_parts, and_from, eqb-true, eq-eqb, cond-true, cond-false}
+use Rattle.std.proofs.lemmas.Bool.{both_ways, cases_eq, and_parts, and_from, eqb-true, eq-eqb}
 use Rattle.costs.specs.Meaning.{Meaning, Lawful, Cost, NoDearer}
 use Rattle.board.specs.declared.row.Row.{Row}
 use Rattle.board.specs.declared.moves.Move.{Move}
@@ -16,9 +16,9 @@ use Rattle.board.specs.Computing.{joins?, record_between, ReadingFound, ending, 
 use Rattle.board.specs.Promises.{Computed}
 use Rattle.board.proofs.Laws.{cheaper_no_dearer, no_dearer_eq, cheaper_up, cheaper_or}
 use Rattle.board.proofs.Elements.{no_some, nth_below}
-use Rattle.board.proofs.Membership.{some_eq, none_some}
+use Rattle.board.proofs.Membership.{none_some}
 use Rattle.board.proofs.Diagonal.{place_eq}
-use Rattle.board.proofs.Pairs.{Distinct, distinct, record_on}
+use Rattle.board.proofs.Pairs.{distinct, record_on}
 use Rattle.board.proofs.Transitions.{arrival_transition, transition_arrival}
 use Rattle.board.proofs.Uniqueness.{number_eq}
 use Rattle.board.proofs.Readings.{reading_cost, end_alone}

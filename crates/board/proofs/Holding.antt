@@ -1,5 +1,5 @@
 -- From a book to what a settled board keeps, and back.
-use Rattle.std.proofs.Common.{◌≡◌, ℕ, zero, suc, ◌+◌, ◌*◌, ◌<◌, ◌≤◌, Bool, true, false, cond, ◌&&◌, eqb, ltb, ◌⊎◌, length, get_or, Some, None, Option, sym, refl, ap, ◌∙◌, subst, inl, inr, ⊎_elim, arith}
+use Rattle.std.proofs.Common.{◌≡◌, ℕ, zero, suc, ◌+◌, ◌*◌, ◌<◌, ◌≤◌, Bool, true, false, cond, ◌&&◌, ltb, ◌⊎◌, length, get_or, Some, None, Option, sym, refl, ap, ◌∙◌, inl, inr, ⊎_elim, arith}
 use Rattle.std.proofs.lemmas.Bool.{eq-eqb, eqb-true, lt-ltb, ltb-true, cases_lt, cases_eq, both_ways, cond-true, cond-false}
 use Rattle.costs.specs.Meaning.{Meaning}
 use Rattle.board.specs.Settling.{bare}
@@ -11,7 +11,7 @@ use Rattle.board.specs.declared.tables.Tables.{Tables}
 use Rattle.board.specs.Held.{held}
 use Rattle.board.specs.Logged.{pair_of, logged}
 use Rattle.board.specs.Grown.{Refers}
-use Rattle.board.specs.Logs.{Book, Ready, State, numbered, records, nth_record}
+use Rattle.board.specs.Logs.{Book, numbered, records, nth_record}
 use Rattle.board.specs.Invariants.{Long, Placed, Found, Finds, Earlier, Measured, is_at?, points?, refers?, small_line?, small?, SmallMoves}
 use Rattle.board.specs.declared.moves.Move.{Move}
 use Rattle.board.specs.Spelled.{Spells, moves_at, move_of}

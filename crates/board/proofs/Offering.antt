@@ -1,11 +1,11 @@
 -- What offering one step or one call does.
-use Rattle.std.proofs.Common.{◌≡◌, ℕ, ◌+◌, ◌*◌, ◌<◌, ◌≤◌, Bool, true, false, ◌⊎◌, List, [], ◌∷◌, ◌++◌, length, get_or, Some, None, Option, sym, refl, ap, ◌∙◌, subst, ap₂, inl, inr, ⊎_elim, arith}
+use Rattle.std.proofs.Common.{◌≡◌, ℕ, ◌<◌, List, [], ◌∷◌, ◌++◌, Some, None, Option, sym, refl, ap, ◌∙◌, subst, ap₂}
 use Rattle.costs.specs.Meaning.{Meaning, Lawful, Cost}
 use Rattle.board.specs.Moves.{Place, Transition, On, moment}
 use Rattle.board.specs.declared.moves.Move.{Move}
 use Rattle.board.specs.declared.moves.Arrival.{Arrival}
 use Rattle.board.specs.declared.moves.Effect.{Effect}
-use Rattle.board.specs.declared.moves.Effect.TheVariants.{Quiet, Opens, Closes, Ends}
+use Rattle.board.specs.declared.moves.Effect.TheVariants.{Quiet, Opens, Closes}
 use Rattle.board.specs.Settling.{Record, by_step, by_call, step_record, call_record, bare, Candidate, step, call}
 use Rattle.board.specs.Arrivals.{arrival_on}
 use Rattle.board.proofs.Transitions.{arrival_transition, transition_arrival}
@@ -16,13 +16,13 @@ use Rattle.board.proofs.Membership.{some_eq, none_some}
 use Rattle.board.specs.declared.log.Entry.{Entry}
 use Rattle.board.specs.declared.log.Log.{Log}
 use Rattle.board.specs.declared.log.Opening.{Opening}
-use Rattle.board.specs.declared.log.Source.TheVariants.{Start, Step, Call}
+use Rattle.board.specs.declared.log.Source.TheVariants.{Step, Call}
 use Rattle.board.specs.declared.tables.Tables.{Tables}
 use Rattle.board.specs.Held.{held}
 use Rattle.board.specs.Logged.{pair_of, record_of}
 use Rattle.board.specs.Offered.{offered}
-use Rattle.board.specs.Grown.{Refers, Offers, BestOk, Covered, Grown, Upto, Stepped, Called}
-use Rattle.board.specs.Logs.{records, numbered, Kept, Book, Ready, BestKept, Grows, nth_record, StepBy, CallBy, Opened}
+use Rattle.board.specs.Grown.{Offers}
+use Rattle.board.specs.Logs.{records, numbered, Ready, BestKept, Grows, nth_record, StepBy, CallBy, Opened}
 use Rattle.board.proofs.Logging.{logged_length, settled_is, in_logged, logged_in}
 use Rattle.board.proofs.Growing.{grown_same, grown_for, offered_grown, pair_in}
 

@@ -1,10 +1,10 @@
 -- Settling one record more.
-use Rattle.std.proofs.Common.{◌≡◌, ℕ, zero, suc, ◌+◌, ◌*◌, ◌<◌, ◌≤◌, min, ◌≢◌, ◌⊎◌, List, [], ◌∷◌, length, get_or, set, Some, None, Option, sym, refl, ap, ◌∙◌, subst, ap₂, subst₂, inl, inr, ⊎_elim, add-one, arith, length-set, get_or-set_other, get_or-set_same}
+use Rattle.std.proofs.Common.{◌≡◌, ℕ, zero, suc, ◌+◌, ◌<◌, ◌≤◌, min, ◌≢◌, ◌⊎◌, List, [], ◌∷◌, length, get_or, set, Some, None, Option, sym, refl, ap, ◌∙◌, subst, ap₂, subst₂, inl, inr, ⊎_elim, add-one, arith, length-set, get_or-set_other, get_or-set_same}
 use Rattle.std.proofs.lemmas.Bool.{cases_eq}
 use Rattle.costs.specs.Meaning.{Meaning}
 use Rattle.board.specs.Moves.{Place, Transition}
 use Rattle.board.specs.declared.moves.Move.{Move}
-use Rattle.board.specs.declared.moves.Effect.TheVariants.{Quiet, Opens, Closes}
+use Rattle.board.specs.declared.moves.Effect.TheVariants.{Opens, Closes}
 use Rattle.board.specs.Content.{Content}
 use Rattle.board.specs.Settling.{In, Record, step_record, call_record, bare, Candidate, step, call}
 use Rattle.board.proofs.Membership.{some_eq, none_some}
@@ -16,9 +16,9 @@ use Rattle.board.specs.declared.log.Log.{Log}
 use Rattle.board.specs.declared.tables.Tables.{Tables}
 use Rattle.board.specs.Held.{held}
 use Rattle.board.specs.Logged.{pair_of, spelled, record_of, logged, blank}
-use Rattle.board.specs.Grown.{Refers, Offers, BestOk, Covered, Grown, Stepped, Called}
-use Rattle.board.specs.Logs.{records, numbered, filled, Kept, Book, Ready, BestKept, Grows, nth_record, Uses, CallsWith, CallsFrom, CallsAround, pushed, State}
-use Rattle.board.proofs.Logging.{logged_length, logged_in, in_logged, logged_push, logged_set, record_stays}
+use Rattle.board.specs.Grown.{Refers, Offers, BestOk, Stepped, Called}
+use Rattle.board.specs.Logs.{records, numbered, filled, Kept, Ready, BestKept, Grows, nth_record, Uses, pushed, State}
+use Rattle.board.proofs.Logging.{logged_in, logged_push, logged_set, record_stays}
 use Rattle.board.proofs.Growing.{pair_in}
 use Rattle.board.proofs.Stepping.{move_is}
 

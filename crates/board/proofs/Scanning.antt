@@ -1,10 +1,8 @@
 -- Steps of the scan for the recorded reading.
-use Rattle.std.proofs.Common.{◌≡◌, ℕ, suc, ◌+◌, ◌<◌, ◌≤◌, true, cond, List, [], ◌∷◌, ◌++◌, length, get_or, Some, None, Option, sym, refl, ap, ◌∙◌, add-one, arith, length-take}
-use Rattle.std.specs.List.{slice_get}
+use Rattle.std.proofs.Common.{◌≡◌, ℕ, ◌+◌, ◌<◌, ◌≤◌, true, List, [], ◌∷◌, ◌++◌, length, get_or, Some, None, Option, sym, refl, ap, ◌∙◌, add-one, arith, length-take}
 use Rattle.std.proofs.lemmas.Bool.{cond-true}
 use Rattle.costs.specs.Meaning.{Meaning}
 use Rattle.board.specs.declared.row.Row.{Row}
-use Rattle.board.specs.declared.moves.Move.{Move}
 use Rattle.board.specs.declared.moves.Arrival.{Arrival}
 use Rattle.board.specs.declared.tables.Tables.{Tables}
 use Rattle.board.specs.Content.{Content}

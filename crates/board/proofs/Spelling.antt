@@ -8,7 +8,7 @@ use Rattle.board.specs.declared.moves.Effect.{Effect}
 use Rattle.board.specs.declared.moves.Effect.TheVariants.{Quiet, Opens, Closes, Ends}
 use Rattle.board.specs.Content.{Content, Sound}
 use Rattle.board.specs.Moves.{Place}
-use Rattle.board.specs.Paths.{Path, stop, go, Dyck, empty, both, pair, brackets, Balanced, Running, BalancedPath}
+use Rattle.board.specs.Paths.{Path, stop, go, Dyck, empty, both, pair, Balanced, Running, BalancedPath}
 use Rattle.board.specs.Settling.{In, Record, start_record, Candidate, step, call, Rounds, begin, round}
 use Rattle.board.proofs.Balance.{brackets-++}
 use Rattle.board.proofs.Decomposing.{transition_cost, path_costs}

@@ -1,10 +1,10 @@
 -- The empty log, and the diagonal.
-use Rattle.std.proofs.Common.{◌≡◌, ℕ, zero, suc, ◌+◌, ◌*◌, ◌<◌, ◌≤◌, ◌⊎◌, List, [], ◌∷◌, ◌++◌, length, get_or, replicate, Some, None, Option, sym, refl, ap, ◌∙◌, subst, ap₂, inl, inr, ⊎_elim, add-one, arith}
+use Rattle.std.proofs.Common.{◌≡◌, ℕ, zero, suc, ◌+◌, ◌<◌, ◌≤◌, List, [], ◌∷◌, ◌++◌, get_or, replicate, Some, None, Option, sym, refl, ap, ◌∙◌, subst, ap₂, ⊎_elim, add-one, arith}
 use lib.ListN.{length-replicate}
 use Rattle.costs.specs.Meaning.{Meaning}
 use Rattle.board.specs.Moves.{Place, moment, mode}
 use Rattle.board.specs.Content.{Content, Sound}
-use Rattle.board.specs.Settling.{In, Record, start, starts, places, moments_of, diagonal, Candidate, step, call}
+use Rattle.board.specs.Settling.{In, Record, start, starts, places, moments_of, Candidate, step, call}
 use Rattle.board.proofs.Diagonal.{started_in, moments_on, places_on}
 use Rattle.board.proofs.Membership.{in_split, none_some}
 use Rattle.board.proofs.Uniqueness.{number_eq}

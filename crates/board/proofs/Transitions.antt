@@ -1,5 +1,5 @@
 -- The function `arrival-on` and the relation `Transition` say the same.
-use Rattle.std.proofs.Common.{◌≡◌, ℕ, Bool, true, false, cond, Some, None, Option, refl, ap, ◌∙◌, subst}
+use Rattle.std.proofs.Common.{◌≡◌, ℕ, Some, None, Option, refl, ap, ◌∙◌, subst}
 use Rattle.std.proofs.lemmas.Bool.{cond-true}
 use Rattle.costs.specs.Meaning.{Meaning}
 use Rattle.board.specs.declared.moves.Move.{Move}

@@ -4,7 +4,6 @@ use Rattle.std.proofs.lemmas.List.{append-nil, append_assoc, get_or-set_same, ge
 use Rattle.std.proofs.lemmas.Bool.{cases_eq}
 use Rattle.board.specs.declared.cursor.Pending.{Pending}
 use Rattle.board.specs.declared.log.Log.{Log}
-use Rattle.board.specs.declared.log.Source.{Source}
 use Rattle.board.specs.declared.log.Source.TheVariants.{Start, Step, Call}
 use Rattle.board.specs.declared.moves.Move.{Move}
 use Rattle.board.specs.Settling.{Record, bare}

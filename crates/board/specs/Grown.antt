@@ -1,5 +1,5 @@
 -- What offering does to the best candidates.
-use Rattle.std.specs.Prelude.{◌≡◌, ℕ, ◌+◌, ◌<◌, List, [], length, Some, None, Option, slice_index_or}
+use Rattle.std.specs.Prelude.{◌≡◌, ℕ, ◌<◌, List, [], length, Some, None, Option, slice_index_or}
 use Rattle.costs.specs.Meaning.{Meaning}
 use Rattle.board.specs.Moves.{Place, Transition}
 use Rattle.board.specs.declared.moves.Move.{Move}

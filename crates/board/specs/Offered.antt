@@ -1,5 +1,5 @@
 -- The best candidate of each pair.
-use Rattle.std.specs.Prelude.{ℕ, Bool, true, false, cond, List, length, Some, None, Option, slice_index_or, slice_set}
+use Rattle.std.specs.Prelude.{ℕ, Bool, true, false, cond, List, Some, None, Option, slice_index_or, slice_set}
 use Rattle.costs.specs.Meaning.{Meaning}
 use Rattle.board.specs.Settling.{derivation_key}
 use Rattle.board.specs.Computing.{lex?}

@@ -1,5 +1,5 @@
 -- The moves of a record.
-use Rattle.std.specs.Prelude.{◌≡◌, ℕ, ◌+◌, ◌*◌, ◌<◌, ◌≤◌, min, List, length, Some, None, Option, slice_index, slice_index_or}
+use Rattle.std.specs.Prelude.{◌≡◌, ℕ, ◌<◌, ◌≤◌, min, List, length, slice_index, slice_index_or}
 use Rattle.board.specs.declared.moves.Move.{Move}
 use Rattle.board.specs.Settling.{bare}
 use Rattle.board.specs.declared.log.Log.{Log}

@@ -1,4 +1,6 @@
 // The board: rows, lines and moves, the draft and its calls, settling, and what a settled board answers.
+#![tactic(auto)]
+
 mod check;
 mod checker;
 mod cursor;

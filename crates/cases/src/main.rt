@@ -1,4 +1,6 @@
 // Runs every case of its folder: files through `least`, and scripts of calls; prints what each gives.
+#![tactic(auto)]
+
 use report::least;
 use script::run as run_script;
 use std::fs;

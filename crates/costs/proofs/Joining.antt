@@ -1,5 +1,5 @@
 -- Joining a list of costs: onto what came before, cut anywhere, and one number at a time.
-use Rattle.std.proofs.Common.{◌≡◌, ℕ, suc, ◌<◌, true, false, List, [], ◌∷◌, ◌++◌, length, get_or, drop, Some, sym, refl, ap, ◌∙◌, drop-cons}
+use Rattle.std.proofs.Common.{◌≡◌, ℕ, suc, ◌<◌, false, List, [], ◌∷◌, ◌++◌, length, get_or, drop, Some, sym, refl, ap, ◌∙◌, drop-cons}
 use Rattle.std.proofs.lemmas.Bool.{cond-true, cond-false}
 use Rattle.costs.specs.Meaning.{Meaning, Lawful, Cost}
 use Rattle.costs.specs.Lists.{Costs, joined_onto, joined, no_cost_from, CutAnywhere}

@@ -1,4 +1,6 @@
 // Kinds of cost: what a kind means, the laws that every kind keeps, three kinds, and joining a list of costs.
+#![tactic(auto)]
+
 mod kind;
 mod list;
 mod points;

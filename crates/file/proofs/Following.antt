@@ -13,7 +13,7 @@ use Rattle.file.specs.declared.call.Call.{Call}
 use Rattle.file.specs.declared.call.Call.TheVariants as call
 use Rattle.file.specs.declared.boards.Board.{Board}
 use Rattle.file.specs.declared.boards.Board.TheVariants as board
-use Rattle.file.specs.States.{State, draft, settled, content, edited, on_draft, on_settled, stepped, state_from, state_after}
+use Rattle.file.specs.States.{State, draft, settled, content, edited, on_draft, on_settled, stepped, state_after}
 use Rattle.file.specs.Told.{Told, settles, reopened, draft_answer, settled_answer, settled_buffer, step_answer_draft, step_answer_settled, step_answer, step_buffer}
 use Rattle.file.specs.Histories.{state_of, records_of, defined_records, Holds, Follows}
 use Rattle.file.proofs.Sounding.{state_sound}

@@ -1,8 +1,7 @@
 -- The main promise, from what the board promises.
-use Rattle.std.proofs.Common.{◌≡◌, ℕ, ◌<◌, ◌≤◌, min, Bool, true, false, cond, ◌&&◌, leb, ◌⊎◌, ◌↔◌, List, [], ◌∷◌, ◌++◌, map, length, drop, Some, None, Ok, Err, Option, Result, sym, refl, ap, ◌∙◌, subst, inl, inr, ⊎_elim, arith}
+use Rattle.std.proofs.Common.{◌≡◌, ℕ, min, Bool, true, false, cond, ◌&&◌, leb, ◌↔◌, List, [], ◌∷◌, ◌++◌, map, length, drop, Some, None, Ok, Err, Option, Result, sym, refl, ap, ◌∙◌, subst, inl, inr, arith}
 use Rattle.std.proofs.lemmas.Bool.{leb-true, leb-false}
-use Rattle.costs.specs.Meaning.{Meaning, Lawful, NoDearer}
-use Rattle.board.specs.declared.moves.Move.{Move}
+use Rattle.costs.specs.Meaning.{Meaning, Lawful}
 use Rattle.board.specs.declared.refusal.Refusal.{Refusal}
 use Rattle.board.specs.declared.refusal.Refusal.TheVariants.{NoReading, TooLong}
 use Rattle.board.specs.Content.{Content, new, Sound}
@@ -10,14 +9,13 @@ use Rattle.board.specs.Calls.{with_row, with_line, with_row_cost, with_line_cost
 use Rattle.board.specs.Refusals.{unless}
 use Rattle.board.specs.Ease.{Eased, CallsEase}
 use Rattle.board.specs.Packing.{packed}
-use Rattle.board.specs.Paths.{Complete}
-use Rattle.board.specs.Settling.{Record, Settled, RecordedReading, HasNoReading, Answer}
+use Rattle.board.specs.Settling.{RecordedReading, HasNoReading, Answer}
 use Rattle.board.specs.Computing.{ReadingFound, found, settled_log}
-use Rattle.board.specs.Questions.{cost_told as told_of, path_told as path_of, path_written, fits}
+use Rattle.board.specs.Questions.{cost_told as told_of, path_told as path_of, path_written}
 use Rattle.board.specs.Promises.{BoardPromises, Cheapest, Computed, NoneBelow}
 use Rattle.file.specs.declared.call.Call.{Call}
 use Rattle.file.specs.declared.call.Call.TheVariants as call
-use Rattle.file.specs.States.{State, draft, settled, content, fault, edited, on_draft, stepped, state_from, state_after}
+use Rattle.file.specs.States.{State, draft, settled, content, fault, on_draft, stepped, state_from, state_after}
 use Rattle.file.specs.Easing.{Question, cost, path, between, check, Eases, adds_row, adds_line, reprices_row, reprices_line, settles, reopens, asks, declined, AllEase, none, next}
 use Rattle.file.specs.Promise.{cost_told, cost_or_worst, answered_cost, Writes, written, AnsweredReading, AnswersCheapest, MainPromise}
 use Rattle.file.specs.Promise as promise

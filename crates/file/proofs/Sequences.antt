@@ -1,6 +1,6 @@
 -- Records one after the other: they are put on the board exactly where the bytes are those of a list of records that the
 -- board takes.
-use Rattle.std.proofs.Common.{◌≡◌, ℕ, zero, suc, ◌+◌, ◌-◌, ◌*◌, ◌^◌, ◌<◌, ◌≤◌, Bool, true, false, cond, ltb, List, [], ◌∷◌, ◌++◌, length, drop, Ok, Err, Result, sym, refl, ap, ◌∙◌, subst, arith, drop-drop}
+use Rattle.std.proofs.Common.{◌≡◌, ℕ, zero, suc, ◌+◌, ◌*◌, ◌^◌, ◌<◌, ◌≤◌, Bool, true, false, cond, ltb, List, [], ◌∷◌, ◌++◌, length, drop, Ok, Err, Result, sym, refl, ap, ◌∙◌, subst, arith, drop-drop}
 use Rattle.std.proofs.lemmas.Bool.{ltb-false}
 use Rattle.costs.specs.Meaning.{Meaning}
 use Rattle.board.specs.Content.{Content}

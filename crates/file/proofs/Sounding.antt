@@ -6,16 +6,15 @@ use Rattle.board.specs.Content.{Content, new, Sound}
 use Rattle.board.specs.Calls.{CallsKeep, size_fault, size_after, row_fault, row_after, line_fault, line_after}
 use Rattle.file.specs.declared.refusal.FileRefusal.{FileRefusal}
 use Rattle.file.specs.declared.refusal.LoadFault.{LoadFault}
-use Rattle.file.specs.declared.fields.Header.{Header}
 use Rattle.file.specs.declared.records.RecordKind.{RecordKind}
 use Rattle.file.specs.declared.records.RecordKind.TheVariants.{Row, Line}
 use Rattle.file.specs.declared.call.Call.{Call}
 use Rattle.file.specs.declared.call.Call.TheVariants as call
 use Rattle.file.specs.Fields.{word4, word8, header_read, row_read, line_read}
-use Rattle.file.specs.Parts.{Piece, fault_at}
+use Rattle.file.specs.Parts.{Piece}
 use Rattle.file.specs.Sections.{rows_code, lines_code, note_code, Found, next_section, past}
 use Rattle.file.specs.Records.{go_on, at_place, called, row_added, line_added, trusted_line, record_added, records}
-use Rattle.file.specs.Load.{Loaded, loaded_as, with_content, with_note, note_taken, section_added, comes, in_turn, at_end, from_note, from_lines, from_rows, sized, filled, loaded, content_left, load_after, after_header, no_note}
+use Rattle.file.specs.Load.{Loaded, loaded_as, with_content, section_added, comes, in_turn, at_end, from_note, from_lines, from_rows, sized, filled, loaded, content_left, load_after, after_header, no_note}
 use Rattle.file.specs.States.{State, draft, settled, content, edited, stepped, state_from}
 
 -- what holds of an answer where it is no refusal

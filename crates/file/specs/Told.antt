@@ -1,5 +1,5 @@
 -- What each call answers, and what it leaves of the buffer.
-use Rattle.std.specs.Prelude.{ℕ, List, [], length, Result}
+use Rattle.std.specs.Prelude.{ℕ, List, length, Result}
 use Rattle.costs.specs.Meaning.{Meaning}
 use Rattle.board.specs.declared.refusal.Refusal.{Refusal}
 use Rattle.board.specs.declared.check.Fault.{Fault}
@@ -8,7 +8,6 @@ use Rattle.board.specs.Content.{Content}
 use Rattle.board.specs.Calls.{size_fault, row_fault, line_fault, reprice_fault}
 use Rattle.board.specs.Checks.{check_answer}
 use Rattle.board.specs.Settling.{Record}
-use Rattle.board.specs.Computing.{settled_log}
 use Rattle.board.specs.Questions.{cost_answer, path_answer, path_after, between_answer}
 use Rattle.file.specs.declared.call.Call.{Call}
 use Rattle.file.specs.declared.call.Call.TheVariants.{Size, AddRow, AddLine, RepriceRow, RepriceLine, ClearLines, Load, Settle, Cost, Path, Between, Check, Reopen}

@@ -1,4 +1,6 @@
 // The file: its layout, and loading it into a draft of a board.
+#![tactic(auto)]
+
 mod boards;
 mod call;
 mod fields;

@@ -1,4 +1,6 @@
 // Reads a file from standard input, and prints its cheapest complete reading.
+#![tactic(auto)]
+
 use report::least;
 use std::io::{Read, Write};
 

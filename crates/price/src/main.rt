@@ -1,4 +1,6 @@
 // Reads lines of a kind's letter and costs from standard input, and prints what each line comes to.
+#![tactic(auto)]
+
 mod answer;
 mod line;
 mod text;

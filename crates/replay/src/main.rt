@@ -1,4 +1,6 @@
 // Reads a script of calls on a board from standard input, and prints each call with its answer.
+#![tactic(auto)]
+
 use script::run as run_script;
 use std::io::{Read, Write};
 

@@ -1,5 +1,5 @@
 -- What `least` prints, by what load, settle, cost and path answer.
-use Rattle.std.specs.Prelude.{ℕ, List, [], ◌∷◌, ◌++◌, take, replicate, Some, None, Ok, Err, codes, decimal, Option, Result, slice_index_or}
+use Rattle.std.specs.Prelude.{ℕ, List, [], ◌++◌, take, replicate, Some, None, Ok, Err, codes, decimal, Option, Result, slice_index_or}
 use Rattle.std.proofs.Math.Utf8.{encode}
 use Rattle.std.specs.List.{flat_map, slice_get}
 use Rattle.costs.specs.Meaning.{Meaning}

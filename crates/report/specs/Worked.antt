@@ -11,7 +11,7 @@ use Rattle.board.specs.Calls.{size_fault, row_fault, with_row_cost}
 use Rattle.board.specs.Checks.{check_answer}
 use Rattle.file.specs.declared.call.Call.{Call}
 use Rattle.file.specs.declared.call.Call.TheVariants.{Size, AddRow, AddLine, RepriceRow, Settle, Reopen}
-use Rattle.file.specs.Layout.{Description, header_word, row_word, written}
+use Rattle.file.specs.Layout.{header_word, row_word, written}
 use Rattle.file.specs.Load.{load_after}
 use Rattle.file.specs.Trust.{trusted}
 use Rattle.file.specs.States.{settled, state_after}

@@ -1,4 +1,6 @@
 // What the programs print.
+#![tactic(auto)]
+
 mod files;
 mod kinds;
 

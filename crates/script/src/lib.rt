@@ -1,4 +1,6 @@
 // Scripts of calls on a board: reading a line, running it, and what is printed of its answer.
+#![tactic(auto)]
+
 mod check;
 mod command;
 mod forms;

@@ -1,11 +1,11 @@
 -- Hexadecimal digits read one after another.
-use Rattle.std.proofs.Common.{◌≡◌, ℕ, ◌+◌, ◌-◌, ◌*◌, ◌/◌, ◌%◌, ◌^◌, ◌<◌, ◌≤◌, List, [], ◌∷◌, ◌++◌, length, get_or, take, drop, Some, None, Option, sym, refl, ap, ◌∙◌, append_assoc, append-nil, pow-suc, add-one, arith}
+use Rattle.std.proofs.Common.{◌≡◌, ℕ, ◌+◌, ◌-◌, ◌*◌, ◌/◌, ◌%◌, ◌^◌, ◌<◌, ◌≤◌, List, [], ◌∷◌, ◌++◌, length, get_or, take, drop, Some, None, Option, sym, refl, ap, ◌∙◌, append_assoc, pow-suc, add-one, arith}
 use native.Mathlib.Nat.{pow-le-pow_right}
 use Rattle.std.specs.List.{flat_map}
 use Rattle.std.proofs.lemmas.List.{drop_more, drop_all, take_rest}
 use Rattle.std.proofs.lemmas.Bool.{cond-true, cond-false, and_from, and_left, and_right, le-leb, lt-leb}
 use Rattle.std.proofs.lemmas.Bool.Decides.{nat_tests}
-use Rattle.words.specs.Hex.{hex_value, hex_pair, then_digit, byte_before, bytes_of, hex_on, hex_number_of, hex_digit_of, written_byte, written_u16, NumberReadsBack, BytesReadBack}
+use Rattle.words.specs.Hex.{hex_value, hex_pair, then_digit, byte_before, bytes_of, hex_on, hex_number_of, hex_digit_of, written_byte, NumberReadsBack, BytesReadBack}
 
 -- a digit's value
 pub digit_below : (b d : ℕ) → hex_value b ≡ Some d → d < 16

@@ -1,4 +1,6 @@
 // Words and numbers in lines of bytes, for the programs.
+#![tactic(auto)]
+
 mod cut;
 mod decimal;
 mod hex;

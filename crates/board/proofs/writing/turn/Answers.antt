@@ -1,6 +1,6 @@
 use Rattle.board.proofs.writing.turn.Goals as goal
-use Rattle.std.proofs.Common.{◌≡◌, ◌+◌, ◌-◌, get_or, sym, arith}
-use Rattle.board.proofs.Turning.{start_never, step_in, step_deeper, step_here, call_in, front_deeper, open_here, inside_deeper, close_here}
+use Rattle.std.proofs.Common.{◌-◌, get_or, arith}
+use Rattle.board.proofs.Turning.{step_deeper, step_here, front_deeper, open_here, inside_deeper, close_here}
 
 pub returns-then-k-log : goal.returns-then-k-log
 returns-then-k-log c = step_deeper c.requires.spells c.args.i c.args.k c.requires.asked c.in-Step.front c.in-Step.by c.in-Step.is c.if-k-log.true

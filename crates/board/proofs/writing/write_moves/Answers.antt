@@ -1,5 +1,5 @@
 use Rattle.board.proofs.writing.write_moves.Goals as goal
-use Rattle.std.proofs.Common.{◌≡◌, ℕ, ◌<◌, length, get_or, sym, ap, ◌∙◌, arith}
+use Rattle.std.proofs.Common.{◌≡◌, ◌<◌, length, get_or, ap, ◌∙◌, arith}
 use Rattle.board.specs.Spelled.{moves_at}
 use Rattle.board.specs.Packing.{packed}
 use Rattle.board.proofs.Turning.{write_more, write_all}

@@ -1,4 +1,4 @@
-use Rattle.std.proofs.Common.{◌≡◌, drop, Ok, sym, refl, ap, ◌∙◌, add-one, arith}
+use Rattle.std.proofs.Common.{Ok, sym, refl, ap, ◌∙◌, add-one, arith}
 use Rattle.std.proofs.lemmas.List.{drop_all}
 use Rattle.costs.specs.Examples.{JoiningExamples}
 use Rattle.costs.specs.Lists.{joined_onto, no_cost_from, unless_no_cost, joined}

@@ -1,4 +1,4 @@
-use Rattle.std.proofs.Common.{◌≡◌, ℕ, ◌+◌, List, take, sym, ◌∙◌, subst, arith}
+use Rattle.std.proofs.Common.{List, take, sym, ◌∙◌, subst}
 use Rattle.std.proofs.lemmas.List.{take_more, take_all}
 use Rattle.file.specs.declared.call.Call.{Call}
 use Rattle.file.specs.declared.call.Call.TheVariants.{Size}

@@ -1,4 +1,4 @@
-use Rattle.std.proofs.Common.{◌<◌, ◌≤◌, length, get_or, sym, ◌∙◌, arith, rules, false-eqb}
+use Rattle.std.proofs.Common.{◌≤◌, length, get_or, sym, ◌∙◌, arith, rules, false-eqb}
 use Rattle.words.specs.Hex.{hex_number_of}
 use Rattle.words.proofs.HexDigits.{digit_below, fits_digit, digit_more, hex_next, hex_stop, hex_end, hex_whole}
 use Rattle.words.proofs.hex.hex_u16.Goals as goal

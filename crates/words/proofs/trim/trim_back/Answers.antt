@@ -1,4 +1,4 @@
-use Rattle.std.proofs.Common.{◌≤◌, length, sym, ap, ◌∙◌, arith, ltb-false, ltb-true}
+use Rattle.std.proofs.Common.{◌≤◌, length, sym, ◌∙◌, arith, ltb-false, ltb-true}
 use Rattle.words.proofs.Trimming.{back_goes, back_stays, back_none}
 use Rattle.words.proofs.trim.trim_back.Goals as goal
 

@@ -1,5 +1,5 @@
-use Rattle.std.proofs.Common.{◌≤◌, length, sym, ap, ◌∙◌, arith, ltb-false, ltb-true}
-use Rattle.words.proofs.Trimming.{front_goes, front_stays, front_none}
+use Rattle.std.proofs.Common.{◌≤◌, length, sym, ◌∙◌, arith, ltb-false, ltb-true}
+use Rattle.words.proofs.Trimming.{front_goes, front_none}
 use Rattle.words.proofs.trim.trim_front.Goals as goal
 
 pub loop-rest-preserved : goal.loop-rest-preserved

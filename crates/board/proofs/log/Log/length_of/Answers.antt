@@ -1,5 +1,5 @@
 use Rattle.board.proofs.log.Log.length_of.Goals as goal
-use Rattle.std.proofs.Common.{◌≡◌, ℕ, ◌<◌, min, length, ap, ◌∙◌, subst, arith}
+use Rattle.std.proofs.Common.{◌<◌, length, ap, ◌∙◌, subst, arith}
 use Rattle.board.specs.declared.log.Source.{Source}
 use Rattle.board.specs.Grown.{Refers}
 use Rattle.board.specs.Logged.{spelled}

@@ -1,4 +1,4 @@
-use Rattle.std.proofs.Common.{◌≡◌, ◌*◌, ◌<◌, ◌≤◌, true, false, ◌||◌, leb, Ok, Err, sym, refl, ap, ◌∙◌, subst, inl, inr, ⊎_elim}
+use Rattle.std.proofs.Common.{◌≡◌, ◌*◌, true, false, ◌||◌, leb, Ok, Err, sym, ap, ◌∙◌, subst, ⊎_elim}
 use Rattle.std.proofs.lemmas.Bool.{or_left, or_right, or_from, le-leb, lt-leb, cond-true, cond-false}
 use Rattle.board.specs.declared.refusal.Refusal.TheVariants.{PlaceOut, Unsettled}
 use Rattle.board.specs.Boards.{settled_content, settled_records}

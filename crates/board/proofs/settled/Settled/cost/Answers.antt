@@ -1,4 +1,4 @@
-use Rattle.std.proofs.Common.{◌≡◌, sym, ap, subst}
+use Rattle.std.proofs.Common.{sym, ap, subst}
 use Rattle.board.specs.Boards.{settled_content, settled_records}
 use Rattle.board.specs.Questions.{cost_told, CostMeans}
 use Rattle.board.proofs.Answering.{cost_means}

@@ -1,4 +1,4 @@
-use Rattle.std.proofs.Common.{◌≡◌, ℕ, ◌+◌, ◌*◌, ◌<◌, get_or, Some, None, Option, sym, refl, ap, ◌∙◌, inl, inr, ⊎_elim, arith}
+use Rattle.std.proofs.Common.{◌≡◌, ℕ, ◌+◌, ◌*◌, ◌<◌, get_or, Some, None, Option, sym, refl, ◌∙◌, inl, inr, ⊎_elim, arith}
 use Rattle.board.specs.declared.tables.Tables.{Tables}
 use Rattle.board.specs.declared.log.Log.{Log}
 use Rattle.board.specs.Held.{held}

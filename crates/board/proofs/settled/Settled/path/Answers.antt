@@ -1,5 +1,4 @@
-use Rattle.std.proofs.Common.{◌≡◌, ℕ, List, Result, sym, refl, ap, ◌∙◌, subst, subst₂, inl, inr, ⊎_elim, arith}
-use Rattle.board.specs.declared.refusal.Refusal.{Refusal}
+use Rattle.std.proofs.Common.{sym, ap, subst₂, inl, inr, ⊎_elim, arith}
 use Rattle.board.specs.Boards.{settled_content, settled_records}
 use Rattle.board.specs.Spelled.{move_of}
 use Rattle.board.specs.Questions.{path_told, path_written, PathMeans}

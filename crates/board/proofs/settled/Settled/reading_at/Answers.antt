@@ -1,4 +1,4 @@
-use Rattle.std.proofs.Common.{◌≡◌, ap, ◌∙◌}
+use Rattle.std.proofs.Common.{ap, ◌∙◌}
 use Rattle.board.specs.Boards.{settled_content, settled_records}
 use Rattle.board.specs.Computing.{record_between}
 use Rattle.board.specs.Logs.{nth_record}

@@ -1,4 +1,4 @@
-use Rattle.std.proofs.Common.{◌≡◌, ◌∙◌}
+use Rattle.std.proofs.Common.{◌∙◌}
 use Rattle.board.specs.Held.{held}
 use Rattle.board.specs.Logs.{records}
 use Rattle.board.proofs.Scanning.{moments_none, moments_more, rows_none, rows_more, rows_all}

@@ -1,8 +1,7 @@
 use Rattle.std.proofs.Common.{◌≡◌}
-use Rattle.std.specs.List.{slice_get}
 use Rattle.board.specs.Held.{held}
 use Rattle.board.specs.Logs.{records}
-use Rattle.board.specs.Computing.{best_moments, best_rows, mode_left}
+use Rattle.board.specs.Computing.{best_moments, best_rows}
 use Rattle.board.specs.Boards.{reading_of}
 use Rattle.board.specs.Entries.{ReadingIn}
 use Rattle.board.proofs.settled.Settled.recorded.Given as goal

@@ -1,7 +1,7 @@
-use Rattle.std.proofs.Common.{◌≡◌, List, replicate, None, sym, ap, ◌∙◌, subst}
+use Rattle.std.proofs.Common.{replicate, None, sym, ap, ◌∙◌, subst}
 use Rattle.board.specs.declared.log.Log.{Log}
 use Rattle.board.specs.Held.{held}
-use Rattle.board.specs.Settling.{Record, Rounds, begin}
+use Rattle.board.specs.Settling.{Rounds, begin}
 use Rattle.board.specs.Logs.{State, records}
 use Rattle.board.proofs.Starting.{empty_records, empty_state}
 use Rattle.board.proofs.settling.Settling.new.Goals as goal

@@ -1,4 +1,4 @@
-use Rattle.std.proofs.Common.{◌≡◌, suc, sym, refl, subst}
+use Rattle.std.proofs.Common.{suc, sym, refl, subst}
 use Rattle.board.specs.Held.{held}
 use Rattle.board.specs.Settling.{Rounds, round}
 use Rattle.board.proofs.Choosing.{best_costs, none_left, round_fresh, round_kept, round_refers, round_is}

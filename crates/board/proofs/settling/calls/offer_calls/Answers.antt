@@ -2,7 +2,6 @@ use Rattle.board.proofs.settling.calls.offer_calls.Goals as goal
 use Rattle.board.specs.Logs.{CallsOpen}
 use Rattle.board.proofs.Growing.{grown_none, grown_more, grown_then, grown_for, upto_eq}
 use Rattle.board.proofs.Stepping.{calls_in_rows}
-use Rattle.board.specs.Held.{held}
 
 pub loop-row-init : goal.loop-row-init
 loop-row-init g c = grown_none (CallsOpen g.K.Kind.meaning c.args.t.now c.args.log.now c.args.i) c.requires.ok

@@ -1,11 +1,11 @@
 use Rattle.board.proofs.settling.calls.offer_close.Goals as goal
-use Rattle.std.proofs.Common.{◌≡◌, ◌<◌, sym, ap, ◌∙◌, arith}
+use Rattle.std.proofs.Common.{◌<◌, sym, ap, ◌∙◌, arith}
 use Rattle.board.specs.declared.moves.Effect.TheVariants.{Closes}
 use Rattle.board.specs.Held.{held}
 use Rattle.board.specs.Logged.{pair_of}
 use Rattle.board.specs.Logs.{numbered}
 use Rattle.board.specs.Settling.{bare}
-use Rattle.board.proofs.Offering.{arrival_cost, arrival_lands, pair_room, opened_cost, call_none, call_loud, call_one}
+use Rattle.board.proofs.Offering.{arrival_lands, pair_room, call_one}
 
 pub offer-requires : goal.offer-requires
 offer-requires g c =

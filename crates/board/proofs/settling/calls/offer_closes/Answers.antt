@@ -1,6 +1,4 @@
 use Rattle.board.proofs.settling.calls.offer_closes.Goals as goal
-use Rattle.std.proofs.Common.{ℕ}
-use Rattle.board.specs.Grown.{Upto}
 use Rattle.board.specs.Logs.{CallBy}
 use Rattle.board.proofs.Growing.{grown_none, grown_more, grown_for, upto_eq}
 use Rattle.board.proofs.Stepping.{goes_row}

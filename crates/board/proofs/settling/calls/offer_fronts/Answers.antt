@@ -6,7 +6,7 @@ use Rattle.board.specs.Moves.{moment, place_number}
 use Rattle.board.specs.Held.{held}
 use Rattle.board.specs.Logs.{Grows, numbered, CallsAt}
 use Rattle.board.proofs.Growing.{grown_same, grown_none, grown_more, grown_for, upto_eq}
-use Rattle.board.proofs.Calling.{no_row, held_row, seen, join_two, way_cost, place_small, index_hit, front_opened, front_hit, front_miss, fronts_all, fronts_none, fronts_apart}
+use Rattle.board.proofs.Calling.{no_row, held_row, seen, place_small, index_hit, front_opened, front_hit, front_miss, fronts_all, fronts_none, fronts_apart}
 use Rattle.board.proofs.settling.calls.offer_fronts.Goals.{in-Some-at, in_default-at}
 
 pub returns-in_default : goal.returns-in_default

@@ -6,7 +6,7 @@ use Rattle.board.specs.Moves.{place_number}
 use Rattle.board.specs.Held.{held}
 use Rattle.board.specs.Logs.{Grows, numbered, CallsTo}
 use Rattle.board.proofs.Growing.{grown_same, grown_none, grown_more, grown_for, upto_eq}
-use Rattle.board.proofs.Calling.{seen, join_two, way_cost, way_on, place_small, index_hit, inside_opened, inside_hit, inside_miss, insides_all, insides_none}
+use Rattle.board.proofs.Calling.{seen, way_on, place_small, index_hit, inside_opened, inside_hit, inside_miss, insides_all, insides_none}
 use Rattle.board.proofs.settling.calls.offer_insides.Goals.{in-Some-at, in_default-at}
 
 pub returns-in_default : goal.returns-in_default

@@ -1,7 +1,7 @@
 use Rattle.board.proofs.settling.rounds.begin.Goals as goal
 use Rattle.std.proofs.Common.{◌≡◌, ℕ, sym, ap, ◌∙◌, subst, arith}
 use Rattle.costs.specs.Meaning.{Cost}
-use Rattle.board.specs.Settling.{starts, places, diagonal}
+use Rattle.board.specs.Settling.{starts, places}
 use Rattle.board.proofs.Starting.{start_more, mode_more, start_fresh}
 
 pub settle_one-requires : goal.settle_one-requires

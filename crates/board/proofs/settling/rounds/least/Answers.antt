@@ -1,5 +1,5 @@
 use Rattle.board.proofs.settling.rounds.least.Goals as goal
-use Rattle.std.proofs.Common.{◌≡◌, ℕ, ◌+◌, Some, None, Option, sym, refl, ap, ◌∙◌, subst, subst₂, arith}
+use Rattle.std.proofs.Common.{◌≡◌, ℕ, ◌+◌, Some, Option, sym, refl, ap, ◌∙◌, subst, subst₂, arith}
 use Rattle.board.specs.declared.log.Entry.{Entry}
 use Rattle.board.specs.Logs.{standing, Chosen, limit_of}
 use Rattle.board.proofs.Choosing.{vacant_some, chosen_skip, chosen_keep, chosen_take}

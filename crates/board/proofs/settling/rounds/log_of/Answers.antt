@@ -1,4 +1,4 @@
-use Rattle.std.proofs.Common.{◌≡◌, ℕ, sym, ap, subst, arith}
+use Rattle.std.proofs.Common.{◌≡◌, sym, ap, subst, arith}
 use Rattle.board.specs.declared.log.Log.{Log}
 use Rattle.board.specs.Held.{held}
 use Rattle.board.specs.Logs.{Book}

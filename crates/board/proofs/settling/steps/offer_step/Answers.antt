@@ -1,9 +1,9 @@
 use Rattle.board.proofs.settling.steps.offer_step.Goals as goal
-use Rattle.std.proofs.Common.{◌≡◌, ◌<◌, sym, ◌∙◌, arith, rules}
+use Rattle.std.proofs.Common.{◌<◌, sym, ◌∙◌, arith}
 use Rattle.board.specs.Held.{held}
 use Rattle.board.specs.Logged.{pair_of}
 use Rattle.board.specs.Logs.{numbered}
-use Rattle.board.proofs.Offering.{arrival_cost, arrival_lands, pair_room, step_none, step_loud, step_one}
+use Rattle.board.proofs.Offering.{arrival_lands, pair_room, step_one}
 
 pub offset_bounds-log-i : goal.offset_bounds-log-i
 offset_bounds-log-i g c = let h = c.requires.ready.book.room in omega arith

@@ -1,7 +1,6 @@
 use Rattle.board.proofs.settling.steps.offer_steps.Goals as goal
-use Rattle.std.proofs.Common.{◌≡◌, ℕ, subst, inl, inr, arith}
+use Rattle.std.proofs.Common.{ℕ}
 use Rattle.board.specs.Settling.{Record}
-use Rattle.board.specs.Grown.{Upto}
 use Rattle.board.specs.Logs.{RowSteps, LineStep}
 use Rattle.board.proofs.Growing.{grown_none, grown_more, grown_then, grown_for, upto_eq}
 use Rattle.board.proofs.Stepping.{row_split, steps_in}

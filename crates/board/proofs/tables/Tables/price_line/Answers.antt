@@ -1,4 +1,4 @@
-use Rattle.std.proofs.Common.{◌≡◌, ◌<◌, List, length, ap, arith, length-take}
+use Rattle.std.proofs.Common.{◌<◌, List, length, ap, arith, length-take}
 use Rattle.std.proofs.lemmas.List.{length-set}
 use Rattle.board.specs.declared.row.Line.{Line}
 use Rattle.board.specs.Content.{Content}
