@@ -1,6 +1,6 @@
 -- Words with no spacing, no star and no '>' in them.
 use Rattle.std.proofs.Common.{◌≡◌, ℕ, ◌/◌, ◌%◌, ◌^◌, ◌<◌, Bool, true, false, not, ◌&&◌, ◌||◌, eqb, ltb, List, [], ◌∷◌, ◌++◌, length, decimal, refl, ap, ◌∙◌, append-nil, arith}
-use Rattle.std.specs.List.{flat_map, AllByRecursion as All}
+use Rattle.std.specs.List.{flat_map, AllByRecursion}
 use Rattle.std.proofs.lemmas.Fmt.{decimal_nonempty}
 use Rattle.std.proofs.lemmas.Bool.{and_parts, or_parts, not-true, ltb-true}
 use Rattle.std.proofs.lemmas.Bool.Decides.{nat_tests}
@@ -83,11 +83,11 @@ free_hex v small = grind (arith, nat_tests)
 free_byte : (b : ℕ) → b < 2 ^ 8 → NoSeparator reserved (written_byte b)
 free_byte b small = (free_hex (b / 16) (omega arith), (free_hex (b % 16) (omega arith), tt))
 
-free_bytes : (bs : List ℕ) → All (λ b. b < 2 ^ 8) bs → NoSeparator reserved (flat_map written_byte bs)
+free_bytes : (bs : List ℕ) → AllByRecursion (λ b. b < 2 ^ 8) bs → NoSeparator reserved (flat_map written_byte bs)
 free_bytes [] small = tt
 free_bytes (b ∷ bs) small = uncut_append reserved (written_byte b) (flat_map written_byte bs) (free_byte b small.0) (free_bytes bs small.1)
 
-pub plain_bytes : (b : ℕ) (bs : List ℕ) → All (λ b. b < 2 ^ 8) (b ∷ bs) → Plain (flat_map written_byte (b ∷ bs))
+pub plain_bytes : (b : ℕ) (bs : List ℕ) → AllByRecursion (λ b. b < 2 ^ 8) (b ∷ bs) → Plain (flat_map written_byte (b ∷ bs))
 plain_bytes b bs small = (omega arith, free_bytes (b ∷ bs) small)
 
 pub plain_u16 : (n : ℕ) → n < 2 ^ 16 → Plain (written_u16 n)
@@ -102,7 +102,7 @@ one_piece : (w : List ℕ) → Plain w → pieces_of spacing w ≡ w ∷ []
 one_piece [] plain = absurd (omega (arith, plain.0))
 one_piece (b ∷ bs) plain = (cuts_apart spacing).one b bs (fewer reserved spacing no_spacing (b ∷ bs) plain.1)
 
-pub spaced_pieces : (w : List ℕ) (ws : List (List ℕ)) → Plain w → All Plain ws → pieces_of spacing (w ++ spaced ws) ≡ w ∷ ws
+pub spaced_pieces : (w : List ℕ) (ws : List (List ℕ)) → Plain w → AllByRecursion Plain ws → pieces_of spacing (w ++ spaced ws) ≡ w ∷ ws
 spaced_pieces w [] plain plains = ap (pieces_of spacing) (append-nil w) ∙ one_piece w plain
 spaced_pieces w (v ∷ ws) plain plains =
     (cuts_apart spacing).apart w 32 (v ++ spaced ws) refl
@@ -112,9 +112,9 @@ spaced_pieces w (v ∷ ws) plain plains =
 unpointed : (w : List ℕ) → Plain w → NoSeparator point w
 unpointed w plain = fewer reserved point no_point w plain.1
 
-spaced_unpointed : (ws : List (List ℕ)) → All Plain ws → NoSeparator point (spaced ws)
+spaced_unpointed : (ws : List (List ℕ)) → AllByRecursion Plain ws → NoSeparator point (spaced ws)
 spaced_unpointed [] plains = tt
 spaced_unpointed (w ∷ ws) plains = (refl, uncut_append point w (spaced ws) (unpointed w plains.0) (spaced_unpointed ws plains.1))
 
-pub line_unpointed : (w : List ℕ) (ws : List (List ℕ)) → Plain w → All Plain ws → NoSeparator point (w ++ spaced ws)
+pub line_unpointed : (w : List ℕ) (ws : List (List ℕ)) → Plain w → AllByRecursion Plain ws → NoSeparator point (w ++ spaced ws)
 line_unpointed w ws plain plains = uncut_append point w (spaced ws) (unpointed w plain) (spaced_unpointed ws plains)

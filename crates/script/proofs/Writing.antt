@@ -1,7 +1,7 @@
 -- Written calls read back.
 use Rattle.std.proofs.Common.{◌≡◌, ℕ, ◌^◌, ◌<◌, ◌≤◌, true, List, [], ◌∷◌, map, length, get_or, Some, decimal, refl, ap, ◌∙◌, arith}
 use Rattle.std.specs.Option.{option_map}
-use Rattle.std.specs.List.{AllByRecursion as All}
+use Rattle.std.specs.List.{AllByRecursion}
 use Rattle.std.proofs.lemmas.Bool.{cond-true, le-leb}
 use Rattle.words.specs.Hex.{written_u16}
 use Rattle.words.specs.Numbers.{number_before, numbers_of}
@@ -18,7 +18,7 @@ use Rattle.script.proofs.Plain.{Plain, is_plain, reserved, point, star, fewer, n
 use Rattle.script.proofs.Arrows.{line_alone, line_answered, no_star_split}
 
 -- decimal numbers
-numbers_back : (limits ns : List ℕ) → All (λ m. m < 2 ^ 64) limits → UpTo limits ns → numbers_of limits (map decimal ns) ≡ Some ns
+numbers_back : (limits ns : List ℕ) → AllByRecursion (λ m. m < 2 ^ 64) limits → UpTo limits ns → numbers_of limits (map decimal ns) ≡ Some ns
 numbers_back [] [] wide fits = refl
 numbers_back [] (n ∷ ns) wide fits = absurd fits
 numbers_back (m ∷ ms) [] wide fits = absurd fits
@@ -26,7 +26,7 @@ numbers_back (m ∷ ms) (n ∷ ns) wide fits =
     ap (λ o. number_before o (numbers_of ms (map decimal ns))) (reads_back m wide.0 n fits.0)
     ∙ ap (number_before (Some n)) (numbers_back ms ns wide.1 fits.1)
 
-plain_decimals : (limits ns : List ℕ) → All (λ m. m < 2 ^ 64) limits → UpTo limits ns → All Plain (map decimal ns)
+plain_decimals : (limits ns : List ℕ) → AllByRecursion (λ m. m < 2 ^ 64) limits → UpTo limits ns → AllByRecursion Plain (map decimal ns)
 plain_decimals [] [] wide fits = tt
 plain_decimals [] (n ∷ ns) wide fits = absurd fits
 plain_decimals (m ∷ ms) [] wide fits = absurd fits
@@ -38,26 +38,26 @@ run_back n small =
     ap (split_run (written_u16 n)) (no_star_split (written_u16 n) (fewer reserved star no_star (written_u16 n) (plain_u16 n small).1))
     ∙ ap (λ o. run_from o (Some 1)) (number_reads_back n small)
 
-runs_back : (ms : List ℕ) → All (λ m. m < 2 ^ 16) ms → runs_of (map written_u16 ms) ≡ Some ms
+runs_back : (ms : List ℕ) → AllByRecursion (λ m. m < 2 ^ 16) ms → runs_of (map written_u16 ms) ≡ Some ms
 runs_back [] small = refl
 runs_back (m ∷ ms) small =
     ap (λ o. run_before o (runs_of (map written_u16 ms))) (run_back m small.0) ∙ ap (run_before (Some (record { number = m; times = 1 }))) (runs_back ms small.1)
 
-plain_moves : (ms : List ℕ) → All (λ m. m < 2 ^ 16) ms → All Plain (map written_u16 ms)
+plain_moves : (ms : List ℕ) → AllByRecursion (λ m. m < 2 ^ 16) ms → AllByRecursion Plain (map written_u16 ms)
 plain_moves [] small = tt
 plain_moves (m ∷ ms) small = (plain_u16 m small.0, plain_moves ms small.1)
 
 -- the limits are numbers of 64 bits
-two_wide_fit : All (λ m. m < 2 ^ 64) two_wide
+two_wide_fit : AllByRecursion (λ m. m < 2 ^ 64) two_wide
 two_wide_fit = (omega arith, (omega arith, tt))
 
-row_limits_fit : All (λ m. m < 2 ^ 64) row_limits
+row_limits_fit : AllByRecursion (λ m. m < 2 ^ 64) row_limits
 row_limits_fit = (omega arith, (omega arith, (omega arith, (omega arith, (omega arith, (omega arith, tt))))))
 
-line_limits_fit : All (λ m. m < 2 ^ 64) line_limits
+line_limits_fit : AllByRecursion (λ m. m < 2 ^ 64) line_limits
 line_limits_fit = (omega arith, (omega arith, (omega arith, (omega arith, tt))))
 
-longest_fits : All (λ m. m < 2 ^ 64) (longest ∷ [])
+longest_fits : AllByRecursion (λ m. m < 2 ^ 64) (longest ∷ [])
 longest_fits = (omega arith, tt)
 
 -- the words of a call are plain
@@ -80,11 +80,11 @@ plain_names (check ms) = refl
 plain_name : (c : Call) → Plain (name_word c)
 plain_name c = plain_text (name_word c) (plain_names c)
 
-plain_file : (bs : List ℕ) → All (λ b. b < 2 ^ 8) bs → All Plain (file_words bs)
+plain_file : (bs : List ℕ) → AllByRecursion (λ b. b < 2 ^ 8) bs → AllByRecursion Plain (file_words bs)
 plain_file [] small = tt
 plain_file (b ∷ bs) small = (plain_bytes b bs small, tt)
 
-plain_words : (c : Call) → Fits c → All Plain (words_after c)
+plain_words : (c : Call) → Fits c → AllByRecursion Plain (words_after c)
 plain_words (kind l) fits = (plain_letter l fits, tt)
 plain_words (size m t) fits = plain_decimals two_wide (m ∷ t ∷ []) two_wide_fit fits
 plain_words (row r) fits = plain_decimals row_limits (row_numbers r) row_limits_fit fits
@@ -101,11 +101,11 @@ plain_words (between s q) fits = plain_decimals two_wide (s ∷ q ∷ []) two_wi
 plain_words (check ms) fits = plain_moves ms fits.0
 
 -- they say the call
-says_file : (bs : List ℕ) → All (λ b. b < 2 ^ 8) bs → load_call (file_words bs) ≡ Some (load bs)
+says_file : (bs : List ℕ) → AllByRecursion (λ b. b < 2 ^ 8) bs → load_call (file_words bs) ≡ Some (load bs)
 says_file [] small = refl
 says_file (b ∷ bs) small = ap (option_map load) (bytes_read_back (b ∷ bs) small)
 
-says_moves : (ms : List ℕ) → All (λ m. m < 2 ^ 16) ms → length ms ≤ longest → check_call (map written_u16 ms) ≡ Some (check ms)
+says_moves : (ms : List ℕ) → AllByRecursion (λ m. m < 2 ^ 16) ms → length ms ≤ longest → check_call (map written_u16 ms) ≡ Some (check ms)
 says_moves ms small short =
     ap (λ o. option_map check (not_too_long o)) (runs_back ms small) ∙ ap (option_map check) (cond-true _ _ _ (le-leb (length ms) longest short))
 

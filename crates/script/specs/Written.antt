@@ -1,6 +1,6 @@
 -- Calls as lines: how each is written, and that it reads back.
 use Rattle.std.specs.Prelude.{◌≡◌, ℕ, ◌^◌, ◌<◌, ◌≤◌, true, List, [], ◌∷◌, ◌++◌, map, length, codes, decimal}
-use Rattle.std.specs.List.{flat_map, AllByRecursion as All}
+use Rattle.std.specs.List.{flat_map, AllByRecursion}
 use Rattle.words.specs.Hex.{written_byte, written_u16}
 use Rattle.script.specs.Calls.{Call, kind, size, row, line, reprice_row, reprice_line, clear, load, settle, reopen, cost, path, between, check}
 use Rattle.script.specs.Forms.{longest, is_letter, two_wide, row_limits, line_limits}
@@ -79,13 +79,13 @@ Fits (line l) = UpTo line_limits (line_numbers l)
 Fits (reprice_row i c) = UpTo two_wide (i ∷ c ∷ [])
 Fits (reprice_line i c) = UpTo two_wide (i ∷ c ∷ [])
 Fits clear = Unit {0}
-Fits (load bs) = All (λ b. b < 2 ^ 8) bs
+Fits (load bs) = AllByRecursion (λ b. b < 2 ^ 8) bs
 Fits settle = Unit {0}
 Fits reopen = Unit {0}
 Fits cost = Unit {0}
 Fits (path n) = n ≤ longest
 Fits (between s q) = UpTo two_wide (s ∷ q ∷ [])
-Fits (check ms) = All (λ m. m < 2 ^ 16) ms × (length ms ≤ longest)
+Fits (check ms) = AllByRecursion (λ m. m < 2 ^ 16) ms × (length ms ≤ longest)
 
 -- The law of a script: a call within its limits, written as a line, reads back as that call, alone and with any answer behind an arrow.
 pub record ReadsWritten : Type 0 where

@@ -1,6 +1,6 @@
 -- Hexadecimal numbers.
 use Rattle.std.specs.Prelude.{◌≡◌, ℕ, ◌+◌, ◌-◌, ◌*◌, ◌/◌, ◌%◌, ◌^◌, ◌<◌, cond, ◌&&◌, List, [], ◌∷◌, ◌++◌, length, Some, None, Option, nat_le, nat_lt}
-use Rattle.std.specs.List.{flat_map, AllByRecursion as All}
+use Rattle.std.specs.List.{flat_map, AllByRecursion}
 
 -- the value of a digit: '0' to '9', 'A' to 'F' or 'a' to 'f'
 abbrev pub hex_value : ℕ → Option ℕ
@@ -54,4 +54,4 @@ abbrev pub NumberReadsBack : Type 0
 NumberReadsBack = (n : ℕ) → n < 2 ^ 16 → hex_number_of (written_u16 n) ≡ Some n
 
 abbrev pub BytesReadBack : Type 0
-BytesReadBack = (bs : List ℕ) → All (λ b. b < 2 ^ 8) bs → bytes_of (flat_map written_byte bs) ≡ Some bs
+BytesReadBack = (bs : List ℕ) → AllByRecursion (λ b. b < 2 ^ 8) bs → bytes_of (flat_map written_byte bs) ≡ Some bs
