@@ -1,4 +1,4 @@
--- The function `arrival-on` and the relation `Transition` say the same.
+-- The function `arrival_on` and the relation `Transition` say the same.
 use Rattle.std.proofs.Common.{◌≡◌, ℕ, Some, None, Option, refl, ap, ◌∙◌, subst}
 use Rattle.std.proofs.lemmas.Bool.{cond-true}
 use Rattle.costs.specs.Meaning.{Meaning}

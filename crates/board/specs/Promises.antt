@@ -73,13 +73,13 @@ pub record Cheapest (m : Meaning) (c : Content) (log : List Record) : Type 0 whe
 abbrev pub SettlingPromises : Type 0
 SettlingPromises = (m : Meaning) (c : Content) → Lawful m → Sound m c → ((log : List Record) × Settled m c log) × ((log : List Record) → Settled m c log → Cheapest m c log)
 
--- A move leads where the function `arrival-on` says, on every content.
+-- A move leads where the function `arrival_on` says, on every content.
 abbrev pub MovesComputed : Type 0
 MovesComputed = (m : Meaning) (c : Content) (v : Move) (p : Place) (h : Arrival) → Transition m c v p h.to h.cost h.effect ↔ (arrival_on m c v p ≡ Some h)
 
 -- The functions find the log and the reading that the relations define.
 pub record Computed (m : Meaning) (c : Content) : Type 0 where
-  -- `settled-log` is settled
+  -- `settled_log` is settled
   pub settled : Settled m c (settled_log m c)
   -- the recorded reading of a settled log is what `found` finds
   pub some : (log : List Record) → Settled m c log → (k : ℕ) (vs : List Move) → RecordedReading m c log k vs ↔ ((i : ℕ) × (found m c log ≡ Some (record { row = i; cost = k; moves = vs })))
