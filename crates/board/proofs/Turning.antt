@@ -22,22 +22,32 @@ use Rattle.board.specs.Packing.{SmallLine, Small}
 use Rattle.board.proofs.Logging.{settled_is, in_logged}
 use Rattle.board.specs.Content.{Content, Sound}
 
+-- the front and the inside of an entry are earlier, and its moves are theirs with its own
+module _ {l : Log} (s : Spells l) (i : ℕ) (within : i < l.count) where
+  pub step_in : (b : ℕ) (v : Move) → (numbered l i).source ≡ Step b v → b < i
+  step_in b v e = subst (Refers i) e (s.earlier i within)
+
+  pub moves_step : (b : ℕ) (v : Move) → (numbered l i).source ≡ Step b v → moves_at l i ≡ moves_at l b ++ (v ∷ [])
+  moves_step b v e = ap (spelled (logged l.entries i)) e ∙ ap (λ (x : Record). x.moves ++ (v ∷ [])) (settled_is l.entries i b (step_in b v e))
+
+  pub call_in : (b j o w t : ℕ) → (numbered l i).source ≡ Call b j o w t → (b < i) × (j < i)
+  call_in b j o w t e = subst (Refers i) e (s.earlier i within)
+
+  pub moves_call : (b j o w t : ℕ) → (numbered l i).source ≡ Call b j o w t → moves_at l i ≡ moves_at l b ++ (bare o ∷ (moves_at l j ++ (bare w ∷ [])))
+  moves_call b j o w t e =
+      let h = call_in b j o w t e in
+      ap (spelled (logged l.entries i)) e ∙ ap₂ (λ (x y : Record). x.moves ++ (bare o ∷ (y.moves ++ (bare w ∷ [])))) (settled_is l.entries i b h.0) (settled_is l.entries i j h.1)
+
 module _ {l : Log} (s : Spells l) (i k : ℕ) (asked : Asked l i k) where
   pub start_never : (numbered l i).source ≡ Start → ⊥
   start_never e = let h = ap (λ (x : Source). length (spelled (logged l.entries i) x)) e in let g = asked.inside in omega arith
 
   module _ (b : ℕ) (v : Move) (e : (numbered l i).source ≡ Step b v) where
-    pub step_in : b < i
-    step_in = subst (Refers i) e (s.earlier i asked.within)
-
-    moves_step : moves_at l i ≡ moves_at l b ++ (v ∷ [])
-    moves_step = ap (spelled (logged l.entries i)) e ∙ ap (λ (x : Record). x.moves ++ (v ∷ [])) (settled_is l.entries i b step_in)
-
     step_count : length (moves_at l i) ≡ length (moves_at l b) + 1
-    step_count = ap length moves_step ∙ length-append (moves_at l b) (v ∷ [])
+    step_count = ap length (moves_step s i asked.within b v e) ∙ length-append (moves_at l b) (v ∷ [])
 
     pub step_length_is : get_or l.lengths b 0 ≡ length (moves_at l b)
-    step_length_is = let h = step_in in let w = asked.within in let n = s.lengths_are b (omega arith) in omega (arith, step_count, asked.short)
+    step_length_is = let h = step_in s i asked.within b v e in let w = asked.within in let n = s.lengths_are b (omega arith) in omega (arith, step_count, asked.short)
 
     pub step_deeper : k < get_or l.lengths b 0 → (b < i) × Asked l b k × (move_of l b k ≡ move_of l i k)
     step_deeper h =
@@ -45,9 +55,9 @@ module _ {l : Log} (s : Spells l) (i k : ℕ) (asked : Asked l i k) where
         let c = step_count in
         let w = asked.within in
         let z = asked.short in
-        let y = step_in in
+        let y = step_in s i asked.within b v e in
         let k-in : k < length (moves_at l b) = omega arith in
-        (step_in, record { within = omega arith; inside = k-in; short = omega arith }, sym (get_or_append_left (moves_at l b) (v ∷ []) (bare 0) k k-in) ∙ ap (λ (x : List Move). get_or x k (bare 0)) (sym moves_step))
+        ((step_in s i asked.within b v e), record { within = omega arith; inside = k-in; short = omega arith }, sym (get_or_append_left (moves_at l b) (v ∷ []) (bare 0) k k-in) ∙ ap (λ (x : List Move). get_or x k (bare 0)) (sym (moves_step s i asked.within b v e)))
 
     pub step_here : get_or l.lengths b 0 ≤ k → v ≡ move_of l i k
     step_here h =
@@ -55,26 +65,20 @@ module _ {l : Log} (s : Spells l) (i k : ℕ) (asked : Asked l i k) where
         let c = step_count in
         let q = asked.inside in
         let z : length (moves_at l b) ≡ k = omega arith in
-        sym (ap (λ (x : List Move). get_or x k (bare 0)) moves_step ∙ get_or_push (moves_at l b) v (bare 0) k z)
+        sym (ap (λ (x : List Move). get_or x k (bare 0)) (moves_step s i asked.within b v e) ∙ get_or_push (moves_at l b) v (bare 0) k z)
 
   module _ (b j o w t : ℕ) (e : (numbered l i).source ≡ Call b j o w t) where
-    pub call_in : (b < i) × (j < i)
-    call_in = subst (Refers i) e (s.earlier i asked.within)
-
     abbrev tail : List Move
     tail = moves_at l j ++ (bare w ∷ [])
 
-    moves_call : moves_at l i ≡ moves_at l b ++ (bare o ∷ (moves_at l j ++ (bare w ∷ [])))
-    moves_call = ap (spelled (logged l.entries i)) e ∙ ap₂ (λ (x y : Record). x.moves ++ (bare o ∷ (y.moves ++ (bare w ∷ [])))) (settled_is l.entries i b call_in.0) (settled_is l.entries i j call_in.1)
-
     call_count : length (moves_at l i) ≡ length (moves_at l b) + length (moves_at l j) + 2
-    call_count = let f = ap length moves_call ∙ length-append (moves_at l b) (bare o ∷ (moves_at l j ++ (bare w ∷ []))) in let g = length-append (moves_at l j) (bare w ∷ []) in omega arith
+    call_count = let f = ap length (moves_call s i asked.within b j o w t e) ∙ length-append (moves_at l b) (bare o ∷ (moves_at l j ++ (bare w ∷ []))) in let g = length-append (moves_at l j) (bare w ∷ []) in omega arith
 
     pub front_length : get_or l.lengths b 0 ≡ length (moves_at l b)
-    front_length = let h = call_in.0 in let a = asked.within in let n = s.lengths_are b (omega arith) in omega (arith, call_count, asked.short)
+    front_length = let h = (call_in s i asked.within b j o w t e).0 in let a = asked.within in let n = s.lengths_are b (omega arith) in omega (arith, call_count, asked.short)
 
     pub inside_length : get_or l.lengths j 0 ≡ length (moves_at l j)
-    inside_length = let h = call_in.1 in let a = asked.within in let n = s.lengths_are j (omega arith) in omega (arith, call_count, asked.short)
+    inside_length = let h = (call_in s i asked.within b j o w t e).1 in let a = asked.within in let n = s.lengths_are j (omega arith) in omega (arith, call_count, asked.short)
 
     pub front_deeper : k < get_or l.lengths b 0 → (b < i) × Asked l b k × (move_of l b k ≡ move_of l i k)
     front_deeper h =
@@ -82,12 +86,12 @@ module _ {l : Log} (s : Spells l) (i k : ℕ) (asked : Asked l i k) where
         let c = call_count in
         let a = asked.within in
         let z = asked.short in
-        let y = call_in.0 in
+        let y = (call_in s i asked.within b j o w t e).0 in
         let k-in : k < length (moves_at l b) = omega arith in
-        (call_in.0, record { within = omega arith; inside = k-in; short = omega arith }, sym (get_or_append_left (moves_at l b) (bare o ∷ (moves_at l j ++ (bare w ∷ []))) (bare 0) k k-in) ∙ ap (λ (x : List Move). get_or x k (bare 0)) (sym moves_call))
+        ((call_in s i asked.within b j o w t e).0, record { within = omega arith; inside = k-in; short = omega arith }, sym (get_or_append_left (moves_at l b) (bare o ∷ (moves_at l j ++ (bare w ∷ []))) (bare 0) k k-in) ∙ ap (λ (x : List Move). get_or x k (bare 0)) (sym (moves_call s i asked.within b j o w t e)))
 
     pub open_here : k ≡ get_or l.lengths b 0 → bare o ≡ move_of l i k
-    open_here h = sym (ap (λ (x : List Move). get_or x k (bare 0)) moves_call ∙ get_or_at (moves_at l b) (bare o) (moves_at l j ++ (bare w ∷ [])) (bare 0) k (sym front_length ∙ sym h))
+    open_here h = sym (ap (λ (x : List Move). get_or x k (bare 0)) (moves_call s i asked.within b j o w t e) ∙ get_or_at (moves_at l b) (bare o) (moves_at l j ++ (bare w ∷ [])) (bare 0) k (sym front_length ∙ sym h))
 
     -- past the open row
     past : (n : ℕ) → n + get_or l.lengths b 0 + 1 ≡ k → move_of l i k ≡ get_or (moves_at l j ++ (bare w ∷ [])) n (bare 0)
@@ -95,7 +99,7 @@ module _ {l : Log} (s : Spells l) (i k : ℕ) (asked : Asked l i k) where
         let f = front_length in
         let le : length (moves_at l b) ≤ k = omega arith in
         let z : k - length (moves_at l b) ≡ n + 1 = omega arith in
-        ap (λ (x : List Move). get_or x k (bare 0)) moves_call ∙ (get_or-append_right (moves_at l b) (bare o ∷ (moves_at l j ++ (bare w ∷ []))) (length (moves_at l b)) k (bare 0) refl le ∙ ap (λ (x : ℕ). get_or (bare o ∷ (moves_at l j ++ (bare w ∷ []))) x (bare 0)) (z ∙ add-one n))
+        ap (λ (x : List Move). get_or x k (bare 0)) (moves_call s i asked.within b j o w t e) ∙ (get_or-append_right (moves_at l b) (bare o ∷ (moves_at l j ++ (bare w ∷ []))) (length (moves_at l b)) k (bare 0) refl le ∙ ap (λ (x : ℕ). get_or (bare o ∷ (moves_at l j ++ (bare w ∷ []))) x (bare 0)) (z ∙ add-one n))
 
     pub inside_deeper : (n : ℕ) → n + get_or l.lengths b 0 + 1 ≡ k → n < get_or l.lengths j 0 → (j < i) × Asked l j n × (move_of l j n ≡ move_of l i k)
     inside_deeper n h g =
@@ -103,9 +107,9 @@ module _ {l : Log} (s : Spells l) (i k : ℕ) (asked : Asked l i k) where
         let c = call_count in
         let a = asked.within in
         let z = asked.short in
-        let y = call_in.1 in
+        let y = (call_in s i asked.within b j o w t e).1 in
         let n-in : n < length (moves_at l j) = omega arith in
-        (call_in.1, record { within = omega arith; inside = n-in; short = omega arith }, sym (past n h ∙ get_or_append_left (moves_at l j) (bare w ∷ []) (bare 0) n n-in))
+        ((call_in s i asked.within b j o w t e).1, record { within = omega arith; inside = n-in; short = omega arith }, sym (past n h ∙ get_or_append_left (moves_at l j) (bare w ∷ []) (bare 0) n n-in))
 
     pub close_here : (n : ℕ) → n + get_or l.lengths b 0 + 1 ≡ k → get_or l.lengths j 0 ≤ n → bare w ≡ move_of l i k
     close_here n h g =

@@ -6,13 +6,12 @@ use Rattle.board.specs.declared.cursor.Pending.{Pending}
 use Rattle.board.specs.declared.log.Log.{Log}
 use Rattle.board.specs.declared.log.Source.TheVariants.{Start, Step, Call}
 use Rattle.board.specs.declared.moves.Move.{Move}
-use Rattle.board.specs.Settling.{Record, bare}
+use Rattle.board.specs.Settling.{bare}
 use Rattle.board.specs.Logged.{spelled, logged}
-use Rattle.board.specs.Grown.{Refers}
 use Rattle.board.specs.Logs.{numbered}
 use Rattle.board.specs.Spelled.{Spells, moves_at}
 use Rattle.board.specs.Cursors.{nothing, level, opened, opened_below}
-use Rattle.board.proofs.Logging.{settled_is}
+use Rattle.board.proofs.Turning.{moves_step, moves_call}
 
 pub none_opened : (l : Log) (ps : List Pending) → opened_below l ps 0 ≡ []
 unfolding opened_below
@@ -49,20 +48,6 @@ module _ {l : Log} (s : Spells l) (i : ℕ) (within : i < l.count) where
   moves_start : (numbered l i).source ≡ Start → moves_at l i ≡ []
   moves_start e = ap (spelled (logged l.entries i)) e
 
-  pub step_in : (b : ℕ) (v : Move) → (numbered l i).source ≡ Step b v → b < i
-  step_in b v e = subst (Refers i) e (s.earlier i within)
-
-  moves_step : (b : ℕ) (v : Move) → (numbered l i).source ≡ Step b v → moves_at l i ≡ moves_at l b ++ (v ∷ [])
-  moves_step b v e = ap (spelled (logged l.entries i)) e ∙ ap (λ (x : Record). x.moves ++ (v ∷ [])) (settled_is l.entries i b (step_in b v e))
-
-  pub call_in : (b j o w t : ℕ) → (numbered l i).source ≡ Call b j o w t → (b < i) × (j < i)
-  call_in b j o w t e = subst (Refers i) e (s.earlier i within)
-
-  moves_call : (b j o w t : ℕ) → (numbered l i).source ≡ Call b j o w t → moves_at l i ≡ moves_at l b ++ (bare o ∷ (moves_at l j ++ (bare w ∷ [])))
-  moves_call b j o w t e =
-      let h = call_in b j o w t e in
-      ap (spelled (logged l.entries i)) e ∙ ap₂ (λ (x y : Record). x.moves ++ (bare o ∷ (y.moves ++ (bare w ∷ [])))) (settled_is l.entries i b h.0) (settled_is l.entries i j h.1)
-
   module _ (ps : List Pending) (d : ℕ) where
     -- an entry of no moves is read only inside a call
     pub start_inside : (numbered l i).source ≡ Start → 0 < length (opened_below l ps d ++ moves_at l i) → 0 < d
@@ -78,10 +63,10 @@ module _ {l : Log} (s : Spells l) (i : ℕ) (within : i < l.count) where
         ∙ (append-nil _ ∙ sym (append_assoc (opened_below l ps (d - 1)) (moves_at l (level ps (d - 1)).front) (bare (level ps (d - 1)).row ∷ [])))
 
     pub step_last : (b : ℕ) (v : Move) → (numbered l i).source ≡ Step b v → opened_below l ps d ++ moves_at l i ≡ (opened_below l ps d ++ moves_at l b) ++ (v ∷ [])
-    step_last b v e = ap (λ (ys : List Move). opened_below l ps d ++ ys) (moves_step b v e) ∙ sym (append_assoc (opened_below l ps d) (moves_at l b) (v ∷ []))
+    step_last b v e = ap (λ (ys : List Move). opened_below l ps d ++ ys) (moves_step s i within b v e) ∙ sym (append_assoc (opened_below l ps d) (moves_at l b) (v ∷ []))
 
     pub call_last : (b j o w t : ℕ) → (numbered l i).source ≡ Call b j o w t → d < length ps → opened_below l ps d ++ moves_at l i ≡ (opened_below l (set ps d (record { front = b; row = o })) (d + 1) ++ moves_at l j) ++ (bare w ∷ [])
-    call_last b j o w t e h = rw (moves_call b j o w t e, opened_push l ps d (record { front = b; row = o }) h) (simp append_assoc)
+    call_last b j o w t e h = rw (moves_call s i within b j o w t e, opened_push l ps d (record { front = b; row = o }) h) (simp append_assoc)
 
 -- the last of the first k moves, and those before it
 pub last_of : (ms before : List Move) (k : ℕ) (v : Move) → 0 < k → k ≤ length ms → take k ms ≡ before ++ (v ∷ []) → (before ≡ take (k - 1) ms) × (v ≡ get_or ms (k - 1) (bare 0))
