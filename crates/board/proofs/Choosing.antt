@@ -12,8 +12,7 @@ use Rattle.board.proofs.Uniqueness.{number_eq}
 use Rattle.board.proofs.Pairs.{candidate_from, candidate_to}
 use Rattle.board.specs.declared.log.Entry.{Entry}
 use Rattle.board.specs.declared.log.Log.{Log}
-use Rattle.board.specs.declared.tables.Tables.{Tables}
-use Rattle.board.specs.Held.{held}
+use Rattle.board.specs.Content.{Content}
 use Rattle.board.specs.Logged.{pair_of, record_of}
 use Rattle.board.specs.Grown.{Refers}
 use Rattle.board.specs.Logs.{records, numbered, nth_record, Kept, State, vacant, standing, First, Chosen, limit_of, CostsBest}
@@ -67,42 +66,42 @@ module _ {m : Meaning} (laws : Lawful m) where
         dearer (Some x) k q r h z = first_within x r k.pair q (priced _ x k.stands) (priced q r z) (k.first q r h z)
 
 -- what the scan found is the round's
-module _ {m : Meaning} {t : Tables} {l : Log} {best : List (Option Entry)} (laws : Lawful m) (s : State m t l best) where
+module _ {m : Meaning} {t : Content} {l : Log} {best : List (Option Entry)} (laws : Lawful m) (s : State m t l best) where
   pub best_costs : CostsBest m best
   best_costs p r e = candidate_cost laws s.ready.sound (all_priced laws s.ready) (s.ok.offers p r e).candidate
 
   pub standing_costs : (p : ℕ) (r : Entry) → standing l best p ≡ Some r → Cost m r.cost
   standing_costs p r e = best_costs p r (vacant_some _ _ r e).1
 
-  candidate_on : (y : Record) → Candidate m (held t) (records l) y → On (held t) y.from × On (held t) y.to
+  candidate_on : (y : Record) → Candidate m t (records l) y → On t y.from × On t y.to
   candidate_on y k = (candidate_from (all_based laws s.ready) k, candidate_to laws s.ready.sound k)
 
   -- an unsettled pair has no number
-  unnumbered : (y : Record) → Candidate m (held t) (records l) y → Unsettled (records l) y.from y.to → (o : Option ℕ) → get_or l.index (pair_of (held t) y.from y.to) None ≡ o → o ≡ None
+  unnumbered : (y : Record) → Candidate m t (records l) y → Unsettled (records l) y.from y.to → (o : Option ℕ) → get_or l.index (pair_of t y.from y.to) None ≡ o → o ≡ None
   unnumbered y k u None e = refl
   unnumbered y k u (Some i) e =
       let f = s.ready.book.finds _ i e in
       let on = candidate_on y k in
       let kept = s.ready.book.kept i f.0 in
       let small = s.ready.sound.few_places in
-      let z = pair_parts (held t) (numbered l i).from (numbered l i).to y.from y.to small kept.to_on on.1 f.1 in
-      absurd (u (nth_record l i) (in_logged l.entries l.count i f.0) (number_eq (held t) _ _ kept.from_on on.0 z.0) (number_eq (held t) _ _ kept.to_on on.1 z.1))
+      let z = pair_parts t (numbered l i).from (numbered l i).to y.from y.to small kept.to_on on.1 f.1 in
+      absurd (u (nth_record l i) (in_logged l.entries l.count i f.0) (number_eq t _ _ kept.from_on on.0 z.0) (number_eq t _ _ kept.to_on on.1 z.1))
 
   -- what stands for an unsettled candidate
-  stands_for : (y : Record) → Candidate m (held t) (records l) y → Unsettled (records l) y.from y.to → (r : Entry) × (standing l best (pair_of (held t) y.from y.to) ≡ Some r) × Precedes m (held t) (record_of (records l) r) y
+  stands_for : (y : Record) → Candidate m t (records l) y → Unsettled (records l) y.from y.to → (r : Entry) × (standing l best (pair_of t y.from y.to) ≡ Some r) × Precedes m t (record_of (records l) r) y
   stands_for y k u =
       let w = s.whole y k in
       let e = unnumbered y k u _ refl in
-      (w.0, ap (λ (o : Option ℕ). vacant o (get_or best (pair_of (held t) y.from y.to) None)) e ∙ w.1, w.2)
+      (w.0, ap (λ (o : Option ℕ). vacant o (get_or best (pair_of t y.from y.to) None)) e ∙ w.1, w.2)
 
-  pair_fits : (y : Record) → Candidate m (held t) (records l) y → pair_of (held t) y.from y.to < 4096
-  pair_fits y k = let on = candidate_on y k in pair_in (held t) y.from y.to s.ready.sound.few_places on.0 on.1
+  pair_fits : (y : Record) → Candidate m t (records l) y → pair_of t y.from y.to < 4096
+  pair_fits y k = let on = candidate_on y k in pair_in t y.from y.to s.ready.sound.few_places on.0 on.1
 
-  precedes_no_dearer_here : (x y : Record) → Cost m x.cost → Cost m y.cost → Precedes m (held t) x y → NoDearer m x.cost y.cost
+  precedes_no_dearer_here : (x y : Record) → Cost m x.cost → Cost m y.cost → Precedes m t x y → NoDearer m x.cost y.cost
   precedes_no_dearer_here x y hx hy (inl k) = cheaper_no_dearer laws _ _ hx hy k
   precedes_no_dearer_here x y hx hy (inr e) = no_dearer_eq laws _ _ hx e.0
 
-  pub none_left : Chosen m (standing l best) 4096 None → (y : Record) → Candidate m (held t) (records l) y → Unsettled (records l) y.from y.to → NoDearer m m.worst y.cost
+  pub none_left : Chosen m (standing l best) 4096 None → (y : Record) → Candidate m t (records l) y → Unsettled (records l) y.from y.to → NoDearer m m.worst y.cost
   none_left c y k u =
       let w = stands_for y k u in
       let hy = candidate_cost laws s.ready.sound (all_priced laws s.ready) k in
@@ -113,51 +112,51 @@ module _ {m : Meaning} {t : Tables} {l : Log} {best : List (Option Entry)} (laws
     here : (get_or l.index c.pair None ≡ None) × (get_or best c.pair None ≡ Some r)
     here = vacant_some _ _ r c.stands
 
-    placed_here : pair_of (held t) r.from r.to ≡ c.pair
+    placed_here : pair_of t r.from r.to ≡ c.pair
     placed_here = s.ok.placed c.pair r here.1
 
-    pub round_fresh : get_or l.index (pair_of (held t) r.from r.to) None ≡ None
+    pub round_fresh : get_or l.index (pair_of t r.from r.to) None ≡ None
     round_fresh = ap (λ (n : ℕ). get_or l.index n None) placed_here ∙ here.0
 
-    round_candidate : Candidate m (held t) (records l) (record_of (records l) r)
+    round_candidate : Candidate m t (records l) (record_of (records l) r)
     round_candidate = (s.ok.offers c.pair r here.1).candidate
 
-    pub round_kept : Kept m (held t) r
+    pub round_kept : Kept m t r
     round_kept = let on = candidate_on _ round_candidate in record { price = best_costs _ r here.1; from_on = on.0; to_on = on.1 }
 
     pub round_refers : Refers l.count r.source
     round_refers = subst (λ (n : ℕ). Refers n r.source) (logged_length l.entries l.count) (s.ok.offers c.pair r here.1).refers
 
     -- the pairs' order is that of the keys
-    pair_lex : (x : Entry) → On (held t) r.to → On (held t) x.to → pair_of (held t) r.from r.to < pair_of (held t) x.from x.to → Lex (key (held t) (record_of [] r)) (key (held t) (record_of [] x))
+    pair_lex : (x : Entry) → On t r.to → On t x.to → pair_of t r.from r.to < pair_of t x.from x.to → Lex (key t (record_of [] r)) (key t (record_of [] x))
     pair_lex x on on' h =
-        let a = number_in (held t) r.to s.ready.sound.few_places on in
-        let b = number_in (held t) x.to s.ready.sound.few_places on' in
-        ⊎_elim (λ (k : place_number (held t) r.from < place_number (held t) x.from). inl k) (λ (k : place_number (held t) x.from ≤ place_number (held t) r.from). inr (omega arith, inl (omega arith))) (cases_lt (place_number (held t) r.from) (place_number (held t) x.from))
+        let a = number_in t r.to s.ready.sound.few_places on in
+        let b = number_in t x.to s.ready.sound.few_places on' in
+        ⊎_elim (λ (k : place_number t r.from < place_number t x.from). inl k) (λ (k : place_number t x.from ≤ place_number t r.from). inr (omega arith, inl (omega arith))) (cases_lt (place_number t r.from) (place_number t x.from))
 
-    precedes_standing : (q : ℕ) (x : Entry) → q < 4096 → standing l best q ≡ Some x → Precedes m (held t) (record_of [] r) (record_of [] x)
+    precedes_standing : (q : ℕ) (x : Entry) → q < 4096 → standing l best q ≡ Some x → Precedes m t (record_of [] r) (record_of [] x)
     precedes_standing q x h e = by (c.first q x h e)
       where
         x_best : get_or best q None ≡ Some x
         x_best = (vacant_some (get_or l.index q None) (get_or best q None) x e).1
 
-        by : Cheaper m r.cost x.cost ⊎ ((r.cost ≡ x.cost) × (c.pair ≤ q)) → Precedes m (held t) (record_of [] r) (record_of [] x)
+        by : Cheaper m r.cost x.cost ⊎ ((r.cost ≡ x.cost) × (c.pair ≤ q)) → Precedes m t (record_of [] r) (record_of [] x)
         by (inl k) = inl k
         by (inr k) = ⊎_elim
-            (λ (z : c.pair ≡ q). subst (λ (w : Entry). Precedes m (held t) (record_of [] r) (record_of [] w)) (some_eq _ _ _ here.1 (ap (λ (n : ℕ). get_or best n None) z ∙ x_best)) (precedes_same laws (held t) (record_of [] r)))
+            (λ (z : c.pair ≡ q). subst (λ (w : Entry). Precedes m t (record_of [] r) (record_of [] w)) (some_eq _ _ _ here.1 (ap (λ (n : ℕ). get_or best n None) z ∙ x_best)) (precedes_same laws t (record_of [] r)))
             (λ (z : c.pair ≡ q → ⊥). let p = s.ok.placed q x x_best in let p' = placed_here in let k1 = k.1 in inr (k.0, pair_lex x round_kept.to_on (candidate_on _ (s.ok.offers q x x_best).candidate).1 (omega arith)))
             (cases_eq c.pair q)
 
-    pub round_is : Round m (held t) (records l) (record_of (records l) r)
+    pub round_is : Round m t (records l) (record_of (records l) r)
     round_is = record {
       candidate = round_candidate;
       unsettled = λ a h e f. let g = logged_in l.entries l.count a h in
-          none_some _ _ round_fresh (sym (sameness a e f) ∙ (ap (λ (z : Record). get_or l.index (pair_of (held t) z.from z.to) None) g.2 ∙ s.ready.book.found g.0 g.1));
+          none_some _ _ round_fresh (sym (sameness a e f) ∙ (ap (λ (z : Record). get_or l.index (pair_of t z.from z.to) None) g.2 ∙ s.ready.book.found g.0 g.1));
       below = c.below;
       first = λ y k u. let w = stands_for y k u in
           let hy = candidate_cost laws s.ready.sound (all_priced laws s.ready) k in
-          precedes_trans laws (held t) (record_of [] r) (record_of [] w.0) y (best_costs _ r here.1) (standing_costs _ w.0 w.1) hy (precedes_standing _ w.0 (pair_fits y k) w.1) w.2;
+          precedes_trans laws t (record_of [] r) (record_of [] w.0) y (best_costs _ r here.1) (standing_costs _ w.0 w.1) hy (precedes_standing _ w.0 (pair_fits y k) w.1) w.2;
     }
       where
-        sameness : (a : Record) → a.from ≡ r.from → a.to ≡ r.to → get_or l.index (pair_of (held t) a.from a.to) None ≡ get_or l.index (pair_of (held t) r.from r.to) None
-        sameness a e f = ap₂ (λ (p q : Place). get_or l.index (pair_of (held t) p q) None) e f
+        sameness : (a : Record) → a.from ≡ r.from → a.to ≡ r.to → get_or l.index (pair_of t a.from a.to) None ≡ get_or l.index (pair_of t r.from r.to) None
+        sameness a e f = ap₂ (λ (p q : Place). get_or l.index (pair_of t p q) None) e f

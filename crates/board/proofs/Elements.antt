@@ -1,8 +1,8 @@
 -- What stands at a number of a list: after one element is added or changed, and in a front.
-use Rattle.std.proofs.Common.{◌≡◌, ℕ, zero, suc, ◌+◌, ◌*◌, ◌<◌, ◌≤◌, ◌⊎◌, List, [], ◌∷◌, ◌++◌, length, get_or, take, set, Some, None, sym, refl, ap, ◌∙◌, subst, inl, inr, mul_comm, mul-zero, zero-mul, le-mul_of_pos_right, arith, length-take}
-use Rattle.std.specs.List.{slice_get}
-use Rattle.std.proofs.lemmas.Bool.{cases_eq}
-use Rattle.std.proofs.lemmas.List.{get_or-set_same, get_or-set_other}
+use Rattle.std.proofs.Common.{◌≡◌, ℕ, zero, suc, ◌+◌, ◌*◌, ◌<◌, ◌≤◌, ◌⊎◌, List, [], ◌∷◌, ◌++◌, length, get_or, take, set, Some, None, sym, refl, ap, ◌∙◌, subst, ap₂, inl, inr, mul_comm, mul-zero, zero-mul, le-mul_of_pos_right, arith, length-take}
+use Rattle.std.specs.List.{slice_get, refill}
+use Rattle.std.proofs.lemmas.List.{length-set}
+use Rattle.std.proofs.Math.Seq.{take-append_seam}
 use Rattle.board.specs.Calls.{changed}
 
 pub no_some : {A : Type 0} (x : A) → None ≡ Some x → ⊥
@@ -34,30 +34,6 @@ length_changed f [] i = refl
 length_changed f (x ∷ xs) zero = refl
 length_changed f (x ∷ xs) (suc i) = ap suc (length_changed f xs i)
 
--- one element changed in a front
-pub changed_front : {A : Type 0} (f : A → A) (xs : List A) (n i : ℕ) (d : A) → i < n → take n (set xs i (f (get_or xs i d))) ≡ changed f (take n xs) i
-changed_front f [] zero i d h = refl
-changed_front f [] (suc n) i d h = refl
-changed_front f (x ∷ xs) zero i d h = absurd (omega arith)
-changed_front f (x ∷ xs) (suc n) zero d h = refl
-changed_front f (x ∷ xs) (suc n) (suc i) d h = ap (λ ys. x ∷ ys) (changed_front f xs n i d (omega arith))
-
--- one element at n more keeps what is said of each below n
-pub each_put : {X : Type 0} (P : X → Type 0) (xs : List X) (n : ℕ) (x : X) → n < length xs → ((k : ℕ) (d : X) → k < n → P (get_or xs k d)) → P x → (k : ℕ) (d : X) → k < n + 1 → P (get_or (set xs n x) k d)
-each_put P xs n x within below here k d l =
-    elim (cases_eq k n) [
-      | inl same ↦ let e : get_or (set xs n x) k d ≡ x = rw same (get_or-set_same xs n x d within) in subst P (sym e) here
-      | inr other ↦ let e : get_or (set xs n x) k d ≡ get_or xs k d = get_or-set_other xs n k x d other in subst P (sym e) (below k d (omega arith))
-    ]
-
--- one element below n replaced keeps what is said of each below n
-pub each_set : {X : Type 0} (P : X → Type 0) (xs : List X) (n i : ℕ) (x : X) → i < length xs → ((k : ℕ) (d : X) → k < n → P (get_or xs k d)) → P x → (k : ℕ) (d : X) → k < n → P (get_or (set xs i x) k d)
-each_set P xs n i x within all here k d l =
-    elim (cases_eq k i) [
-      | inl same ↦ let e : get_or (set xs i x) k d ≡ x = rw same (get_or-set_same xs i x d within) in subst P (sym e) here
-      | inr other ↦ let e : get_or (set xs i x) k d ≡ get_or xs k d = get_or-set_other xs i k x d other in subst P (sym e) (all k d l)
-    ]
-
 -- the factors of a product that is not 0, and at most 64
 pub factors : (a b : ℕ) → 0 < a * b → a * b ≤ 64 → (0 < a) × (0 < b) × (a ≤ 64) × (b ≤ 64)
 factors zero b h k = absurd (omega (arith, zero-mul b))
@@ -68,29 +44,20 @@ factors (suc a) (suc b) h k =
     let turned = mul_comm (suc a) (suc b) in
     (omega arith, omega arith, omega arith, omega arith)
 
--- what stands at a number of a front
-pub nth_front : {X : Type 0} (xs : List X) (n i : ℕ) (d : X) → i < n → n ≤ length xs → slice_get (take n xs) i ≡ Some (get_or xs i d)
-nth_front [] n i d h l = absurd (omega arith)
-nth_front (x ∷ xs) zero i d h l = absurd (omega arith)
-nth_front (x ∷ xs) (suc n) zero d h l = refl
-nth_front (x ∷ xs) (suc n) (suc i) d h l = nth_front xs n i d (omega arith) (omega arith)
-
-pub nth_past : {X : Type 0} (xs : List X) (i : ℕ) → length xs ≤ i → slice_get xs i ≡ None
-nth_past [] i h = refl
-nth_past (x ∷ xs) zero h = absurd (omega arith)
-nth_past (x ∷ xs) (suc i) h = nth_past xs i (omega arith)
-
 pub nth_below : {A : Type 0} (xs : List A) (i : ℕ) (x : A) → slice_get xs i ≡ Some x → i < length xs
 nth_below [] i x e = absurd (no_some x e)
 nth_below (y ∷ xs) zero x e = omega arith
 nth_below (y ∷ xs) (suc i) x e = let h = nth_below xs i x e in omega arith
 
--- what holds of each below n holds of what stands in the front
-pub each_front : {X : Type 0} (P : X → Type 0) (xs : List X) (n : ℕ) → n ≤ length xs → ((k : ℕ) (d : X) → k < n → P (get_or xs k d)) → (i : ℕ) (x : X) → slice_get (take n xs) i ≡ Some x → P x
-each_front P xs n l all i x e =
-    let small : i < n = omega (arith, nth_below (take n xs) i x e, length-take n xs) in
-    let is : get_or xs i x ≡ x = some_in (sym (nth_front xs n i x small l) ∙ e) in
-    subst P is (all i x small)
-  where
-    some_in : {A : Type 0} {a b : A} → Some a ≡ Some b → a ≡ b
-    some_in {a = a} {b = b} e = cc
+-- one element changed
+set_changed : {A : Type 0} (f : A → A) (xs : List A) (i : ℕ) (d : A) → i < length xs → set xs i (f (get_or xs i d)) ≡ changed f xs i
+set_changed f [] i d h = refl
+set_changed f (x ∷ xs) zero d h = refl
+set_changed f (x ∷ xs) (suc i) d h = ap (λ ys. x ∷ ys) (set_changed f xs i d (omega arith))
+
+-- the same, as a write through a slice leaves the list
+pub changed_set : {A : Type 0} (f : A → A) (xs ys : List A) (i : ℕ) (d x : A) → i < length xs → ys ≡ xs → d ≡ get_or xs i d → x ≡ f d → refill (length xs) xs (set ys i x) ≡ changed f xs i
+changed_set f xs ys i d x h same is made =
+    let at : set ys i x ≡ changed f xs i = ap₂ (λ zs y. set zs i y) same (made ∙ ap f is) ∙ set_changed f xs i d h in
+    let long : length (set ys i x) ≡ length xs = length-set ys i x ∙ ap length same in
+    subst (λ n. refill n xs (set ys i x) ≡ set ys i x) long (take-append_seam (set ys i x) _) ∙ at

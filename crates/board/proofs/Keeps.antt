@@ -22,6 +22,11 @@ pub unless_keeps : {X : Type 0} (P : X → Type 0) (o : Option Refusal) (done ol
 unless_keeps P None done old f h = f refl
 unless_keeps P (Some e) done old f h = h
 
+-- what is done to either outcome is done to the outcome
+pub unless_each : {X Y : Type 0} (h : X → Y) (o : Option Refusal) (done old : X) → h (unless o done old) ≡ unless o (h done) (h old)
+unless_each h None done old = refl
+unless_each h (Some e) done old = refl
+
 -- a row's cost has no part in how it is formed
 pub formed_at_cost : (kind : RowKind) (r : Row) (k : ℕ) → formed kind (row_at_cost k r) ≡ formed kind r
 formed_at_cost Plain r k = refl

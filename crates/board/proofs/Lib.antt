@@ -28,6 +28,7 @@ pub mod Flight
 pub mod Logging
 pub mod Growing
 pub mod Offering
+pub mod Knowing
 pub mod Stepping
 pub mod Calling
 pub mod Choosing
@@ -36,7 +37,6 @@ pub mod Starting
 pub mod Turning
 pub mod Unwinding
 pub mod Holding
-pub mod Pricing
 pub mod Packs
 pub mod Depth
 pub mod Scanning

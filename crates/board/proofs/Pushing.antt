@@ -13,8 +13,6 @@ use Rattle.board.specs.declared.log.Entry.{Entry}
 use Rattle.board.specs.declared.log.Source.{Source}
 use Rattle.board.specs.declared.log.Source.TheVariants.{Start, Step, Call}
 use Rattle.board.specs.declared.log.Log.{Log}
-use Rattle.board.specs.declared.tables.Tables.{Tables}
-use Rattle.board.specs.Held.{held}
 use Rattle.board.specs.Logged.{pair_of, spelled, record_of, logged, blank}
 use Rattle.board.specs.Grown.{Refers, Offers, BestOk, Stepped, Called}
 use Rattle.board.specs.Logs.{records, numbered, filled, Kept, Ready, BestKept, Grows, nth_record, Uses, pushed, State}
@@ -72,9 +70,9 @@ called_of {m} {c} a b {o} {w} {q} {k} {l} {n} g h =
       is = ap₂ (λ (v u : Move). call_record m a v k b u l q) eo ew;
     }
 
-module _ {m : Meaning} {t : Tables} {l : Log} (ready : Ready m t l) (p : ℕ) (r : Entry) (at : p ≡ pair_of (held t) r.from r.to) (fresh : get_or l.index p None ≡ None) (kept : Kept m (held t) r) (refers : Refers l.count r.source) (n : ℕ) (n-is : n ≡ min (length (spelled (records l) r.source)) 65536) where
+module _ {m : Meaning} {c : Content} {l : Log} (ready : Ready m c l) (p : ℕ) (r : Entry) (at : p ≡ pair_of c r.from r.to) (fresh : get_or l.index p None ≡ None) (kept : Kept m c r) (refers : Refers l.count r.source) (n : ℕ) (n-is : n ≡ min (length (spelled (records l) r.source)) 65536) where
   pair_here : p < length l.index
-  pair_here = let h = pair_in (held t) r.from r.to ready.sound.few_places kept.from_on kept.to_on in omega (arith, ready.book.index_long)
+  pair_here = let h = pair_in c r.from r.to ready.sound.few_places kept.from_on kept.to_on in omega (arith, ready.book.index_long)
 
   pub room_here : l.count < 4096
   room_here = let h = filled_less l.index p pair_here fresh in omega (arith, ready.book.full, ready.book.index_long)
@@ -108,16 +106,16 @@ module _ {m : Meaning} {t : Tables} {l : Log} (ready : Ready m t l) (p : ℕ) (r
       (cases_eq i l.count)
 
   pair_at : Entry → ℕ
-  pair_at x = pair_of (held t) x.from x.to
+  pair_at x = pair_of c x.from x.to
 
-  pub pushed_ready : Ready m t (pushed l p r n)
+  pub pushed_ready : Ready m c (pushed l p r n)
   unfolding pair_at
   pushed_ready = record {
     sound = ready.sound;
     book = record {
       long = length-set l.entries l.count r ∙ ready.book.long;
       index_long = length-set l.index p (Some l.count) ∙ ready.book.index_long;
-      kept = by_number (λ i x. Kept m (held t) x) kept ready.book.kept;
+      kept = by_number (λ i x. Kept m c x) kept ready.book.kept;
       found = by_number (λ i x. get_or (set l.index p (Some l.count)) (pair_at x) None ≡ Some i)
           (ap (λ (n : ℕ). get_or (set l.index p (Some l.count)) n None) (sym at) ∙ get_or-set_same l.index p (Some l.count) None pair_here)
           (λ i h. get_or-set_other l.index p (pair_at (numbered l i)) (Some l.count) None (λ e. none_some _ _ fresh (ap (λ (n : ℕ). get_or l.index n None) (sym e) ∙ ready.book.found i h)) ∙ ready.book.found i h);
@@ -136,8 +134,8 @@ module _ {m : Meaning} {t : Tables} {l : Log} (ready : Ready m t l) (p : ℕ) (r
     };
   }
 
-  pub pushed_ok : {best : List (Option Entry)} → BestKept m t l best → BestKept m t (pushed l p r n) best
-  pushed_ok {best} ok = subst (λ (e : List Record). BestOk m (held t) e best) (sym pushed_records) (record { long = ok.long; offers = λ q x e. offers_stays (record_of (records l) r) x (ok.offers q x e); placed = ok.placed })
+  pub pushed_ok : {best : List (Option Entry)} → BestKept m c l best → BestKept m c (pushed l p r n) best
+  pushed_ok {best} ok = subst (λ (e : List Record). BestOk m c e best) (sym pushed_records) (record { long = ok.long; offers = λ q x e. offers_stays (record_of (records l) r) x (ok.offers q x e); placed = ok.placed })
 
   -- where a record of the new log stands
   stands_at : (b : Record) → In b (record_of (records l) r ∷ records l) → (j : ℕ) × (j < l.count + 1) × (b ≡ nth_record (pushed l p r n) j)
@@ -147,20 +145,20 @@ module _ {m : Meaning} {t : Tables} {l : Log} (ready : Ready m t l) (p : ℕ) (r
   new_is a e = e ∙ sym place_new
 
   -- a candidate was one before, or uses the new record
-  uses_new : {y : Record} → Candidate m (held t) (record_of (records l) r ∷ records l) y → Candidate m (held t) (records l) y ⊎ Uses m t (pushed l p r n) l.count y
-  uses_new (step a {v} {q} {k} (inl e) g) = inr (inl (v, subst (λ (z : Record). Stepped m (held t) z v (step_record m a v q k)) (new_is a e) (record { q = q; k = k; goes = g; is = refl })))
+  uses_new : {y : Record} → Candidate m c (record_of (records l) r ∷ records l) y → Candidate m c (records l) y ⊎ Uses m c (pushed l p r n) l.count y
+  uses_new (step a {v} {q} {k} (inl e) g) = inr (inl (v, subst (λ (z : Record). Stepped m c z v (step_record m a v q k)) (new_is a e) (record { q = q; k = k; goes = g; is = refl })))
   uses_new (step a (inr i) g) = inl (step a i g)
   uses_new (call a b {o} {w} {q} {k} {l = d} {n} (inl e) g j h) =
       let s = stands_at b j in
-      inr (inr (o.row, inl (s.0, s.1, (w.row, subst₂ (λ (x z : Record). Called m (held t) x z o.row w.row (call_record m a o k b w d q)) (new_is a e) s.2 (called_of a b g h)))))
+      inr (inr (o.row, inl (s.0, s.1, (w.row, subst₂ (λ (x z : Record). Called m c x z o.row w.row (call_record m a o k b w d q)) (new_is a e) s.2 (called_of a b g h)))))
   uses_new (call a b {o} {w} {q} {k} {l = d} {n} (inr i) g (inl e) h) =
       let s = stands_at a (inr i) in
-      inr (inr (o.row, inr (s.0, s.1, (w.row, subst₂ (λ (x z : Record). Called m (held t) x z o.row w.row (call_record m a o k b w d q)) s.2 (new_is b e) (called_of a b g h)))))
+      inr (inr (o.row, inr (s.0, s.1, (w.row, subst₂ (λ (x z : Record). Called m c x z o.row w.row (call_record m a o k b w d q)) s.2 (new_is b e) (called_of a b g h)))))
   uses_new (call a b (inr i) g (inr j) h) = inl (call a b i g j h)
 
-  pub pushed_state : {best best' : List (Option Entry)} → State m t l best → Grows m t (pushed l p r n) best best' (Uses m t (pushed l p r n) l.count) → State m t (pushed l p r n) best'
+  pub pushed_state : {best best' : List (Option Entry)} → State m c l best → Grows m c (pushed l p r n) best best' (Uses m c (pushed l p r n) l.count) → State m c (pushed l p r n) best'
   pushed_state {best} {best'} s grown = record {
     ready = pushed_ready;
     ok = grown.ok;
-    whole = λ y k. ⊎_elim (λ k'. grown.better y k (s.whole y k')) (λ u. grown.covers y k u) (uses_new (subst (λ (e : List Record). Candidate m (held t) e y) pushed_records k));
+    whole = λ y k. ⊎_elim (λ k'. grown.better y k (s.whole y k')) (λ u. grown.covers y k u) (uses_new (subst (λ (e : List Record). Candidate m c e y) pushed_records k));
   }

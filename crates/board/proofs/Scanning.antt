@@ -1,17 +1,17 @@
 -- Steps of the scan for the recorded reading.
 use Rattle.std.proofs.Common.{◌≡◌, ℕ, ◌+◌, ◌<◌, ◌≤◌, true, List, [], ◌∷◌, ◌++◌, length, get_or, Some, None, Option, sym, refl, ap, ◌∙◌, add-one, arith, length-take}
+use Rattle.std.specs.List.{slice_get}
 use Rattle.std.proofs.lemmas.Bool.{cond-true}
 use Rattle.costs.specs.Meaning.{Meaning}
 use Rattle.board.specs.declared.row.Row.{Row}
 use Rattle.board.specs.declared.moves.Arrival.{Arrival}
-use Rattle.board.specs.declared.tables.Tables.{Tables}
 use Rattle.board.specs.Content.{Content}
-use Rattle.board.specs.Held.{held}
 use Rattle.board.specs.Moves.{Place, is_end}
 use Rattle.board.specs.Settling.{Record, bare}
 use Rattle.board.specs.Arrivals.{arrival_on}
 use Rattle.board.specs.Computing.{ReadingFound, ending, reading_at, better, best_moments, mode_left, best_rows, found}
-use Rattle.board.proofs.Elements.{nth_front, nth_below}
+use Rattle.board.proofs.Elements.{nth_below}
+use Rattle.std.proofs.lemmas.Option.{slice_get-get_or}
 use Rattle.board.proofs.Transitions.{arrival_transition}
 
 -- a reading by what was found of its row and its record
@@ -23,10 +23,10 @@ ending_is m i k h a o b e f t c =
     ∙ ap (λ x. ending m i x b) e
 
 -- a row that leads somewhere is held
-pub row_listed : (m : Meaning) (t : Tables) (i : ℕ) (p : Place) (h : Arrival) → Some h ≡ arrival_on m (held t) (bare i) p → i < t.row_count
-row_listed m t i p h e =
-    let g = arrival_transition m (held t) (bare i) p h (sym e) in
-    omega (arith, nth_below (held t).rows i g.by g.found, length-take t.row_count t.rows)
+pub row_listed : (m : Meaning) (c : Content) (i : ℕ) (p : Place) (h : Arrival) → Some h ≡ arrival_on m c (bare i) p → i < length c.rows
+row_listed m c i p h e =
+    let g = arrival_transition m c (bare i) p h (sym e) in
+    nth_below c.rows i g.by g.found
 
 -- no moments yet, and one more
 pub moments_none : (m : Meaning) (c : Content) (log : List Record) (i n : ℕ) (b : Option ReadingFound) → b ≡ best_moments m c log i n 0 b
@@ -42,15 +42,15 @@ pub rows_none : (m : Meaning) (c : Content) (log : List Record) → None ≡ bes
 unfolding best_rows
 rows_none m c log = refl
 
-pub rows_more : (m : Meaning) (t : Tables) (log : List Record) (i u : ℕ) (d : Row) (x : Option ReadingFound) → i < t.row_count → u ≤ t.moments → t.moments ≤ u → x ≡ best_moments m (held t) log i (get_or t.rows i d).from u (best_rows m (held t) log i) → x ≡ best_rows m (held t) log (i + 1)
+pub rows_more : (m : Meaning) (c : Content) (log : List Record) (i u : ℕ) (rs : List Row) (d : Row) (x : Option ReadingFound) → rs ≡ c.rows → i < length rs → u ≤ c.moments → c.moments ≤ u → x ≡ best_moments m c log i (get_or rs i d).from u (best_rows m c log i) → x ≡ best_rows m c log (i + 1)
 unfolding best_rows
-rows_more m t log i u d x h k l e =
-    let all : u ≡ t.moments = omega arith in
-    let row = nth_front t.rows t.row_count i d h (omega (arith, t.room.0, t.long.0)) in
-    rw add-one (e ∙ ap (λ z. best_moments m (held t) log i (get_or t.rows i d).from z (best_rows m (held t) log i)) all ∙ ap (λ o. best_moments m (held t) log i (mode_left o) t.moments (best_rows m (held t) log i)) (sym row))
+rows_more m c log i u rs d x same h k l e =
+    let all : u ≡ c.moments = omega arith in
+    let row = ap (λ zs. slice_get zs i) (sym same) ∙ slice_get-get_or rs i d h in
+    rw add-one (e ∙ ap (λ z. best_moments m c log i (get_or rs i d).from z (best_rows m c log i)) all ∙ ap (λ o. best_moments m c log i (mode_left o) c.moments (best_rows m c log i)) (sym row))
 
-pub rows_all : (m : Meaning) (t : Tables) (log : List Record) (i : ℕ) (x : Option ReadingFound) → i ≤ t.row_count → t.row_count ≤ i → x ≡ best_rows m (held t) log i → x ≡ found m (held t) log
+pub rows_all : (m : Meaning) (c : Content) (log : List Record) (i : ℕ) (rs : List Row) (x : Option ReadingFound) → rs ≡ c.rows → i ≤ length rs → length rs ≤ i → x ≡ best_rows m c log i → x ≡ found m c log
 unfolding found
-rows_all m t log i x h k e =
-    let n : i ≡ length (held t).rows = omega (arith, length-take t.row_count t.rows, t.room.0, t.long.0) in
-    e ∙ ap (best_rows m (held t) log) n
+rows_all m c log i rs x same h k e =
+    let n : i ≡ length c.rows = omega (arith, ap length same) in
+    e ∙ ap (best_rows m c log) n

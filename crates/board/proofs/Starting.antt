@@ -10,8 +10,6 @@ use Rattle.board.proofs.Membership.{in_split, none_some}
 use Rattle.board.proofs.Uniqueness.{number_eq}
 use Rattle.board.specs.declared.log.Entry.{Entry}
 use Rattle.board.specs.declared.log.Log.{Log}
-use Rattle.board.specs.declared.tables.Tables.{Tables}
-use Rattle.board.specs.Held.{held}
 use Rattle.board.specs.Logged.{pair_of, blank}
 use Rattle.board.specs.Logs.{records, numbered, nth_record, filled, Book, Ready, State, empty}
 use Rattle.board.proofs.Logging.{logged_none, in_logged}
@@ -47,9 +45,9 @@ empty_book m c = record {
   lengths_are = λ i h. absurd (omega arith);
 }
 
-pub empty_state : {m : Meaning} {t : Tables} → Sound m (held t) → State m t empty (replicate 4096 None)
-empty_state {m} {t} d = record {
-  ready = record { sound = d; book = empty_book m (held t) };
+pub empty_state : {m : Meaning} {c : Content} → Sound m c → State m c empty (replicate 4096 None)
+empty_state {m} {c} d = record {
+  ready = record { sound = d; book = empty_book m c };
   ok = record {
     long = length-replicate {A = Option Entry} 4096 None;
     offers = λ p r e. absurd (none_some _ _ (none_at Entry 4096 p) e);
@@ -70,21 +68,21 @@ mode_more m log mode moment n h k e =
     e ∙ (ap (λ (x : ℕ). starts m (moments_of mode x ++ places mode n)) z ∙ ap (λ (x : ℕ). starts m (places x n)) (sym (add-one mode)))
 
 -- a place of the diagonal that has not come yet
-pub start_fresh : {m : Meaning} {t : Tables} {l : Log} (n u : ℕ) → Ready m t l → n < t.modes → u < t.moments → records l ≡ starts m (moments_of n u ++ places n t.moments) → get_or l.index (pair_of (held t) (n, u) (n, u)) None ≡ None
-start_fresh {m} {t} {l} n u ready hm ht e = by _ refl
+pub start_fresh : {m : Meaning} {c : Content} {l : Log} (n u : ℕ) → Ready m c l → n < c.modes → u < c.moments → records l ≡ starts m (moments_of n u ++ places n c.moments) → get_or l.index (pair_of c (n, u) (n, u)) None ≡ None
+start_fresh {m} {c} {l} n u ready hm ht e = by _ refl
   where
     here : Place
     here = (n, u)
 
-    by : (o : Option ℕ) → get_or l.index (pair_of (held t) (n, u) (n, u)) None ≡ o → get_or l.index (pair_of (held t) (n, u) (n, u)) None ≡ None
+    by : (o : Option ℕ) → get_or l.index (pair_of c (n, u) (n, u)) None ≡ o → get_or l.index (pair_of c (n, u) (n, u)) None ≡ None
     by None f = f
     by (Some i) f =
         let g = ready.book.finds _ i f in
         let kept = ready.book.kept i g.0 in
-        let z = pair_parts (held t) (numbered l i).from (numbered l i).to (n, u) (n, u) ready.sound.few_places kept.to_on (hm, ht) g.1 in
-        let same : (numbered l i).from ≡ (n, u) = number_eq (held t) _ _ kept.from_on (hm, ht) z.0 in
+        let z = pair_parts c (numbered l i).from (numbered l i).to (n, u) (n, u) ready.sound.few_places kept.to_on (hm, ht) g.1 in
+        let same : (numbered l i).from ≡ (n, u) = number_eq c _ _ kept.from_on (hm, ht) z.0 in
         let s = started_in m (nth_record l i) _ (subst (In (nth_record l i)) e (in_logged l.entries l.count i g.0)) in
         let x : (n, u) ≡ s.0 = sym same ∙ ap (λ (y : Record). y.from) s.1 in
         let xm : n ≡ mode s.0 = ap (λ (p : Place). mode p) x in
         let xt : u ≡ moment s.0 = ap (λ (p : Place). moment p) x in
-        absurd (⊎_elim (λ j. let q = moments_on s.0 n u j in let q1 = q.1 in omega arith) (λ j. let q = places_on s.0 n t.moments j in let q0 = q.0 in omega arith) (in_split s.0 (moments_of n u) (places n t.moments) s.2))
+        absurd (⊎_elim (λ j. let q = moments_on s.0 n u j in let q1 = q.1 in omega arith) (λ j. let q = places_on s.0 n c.moments j in let q0 = q.0 in omega arith) (in_split s.0 (moments_of n u) (places n c.moments) s.2))

@@ -13,6 +13,10 @@ pub record Content : Type 0 where
   pub rows : List Row
   pub lines : List Line
 
+-- the content of this size, with these rows and lines
+abbrev pub content : ℕ → ℕ → List Row → List Line → Content
+content modes moments rows lines = record { modes = modes; moments = moments; rows = rows; lines = lines }
+
 -- a new board: one mode, one moment, nothing on it
 abbrev pub new : Content
 new = record { modes = 1; moments = 1; rows = []; lines = [] }

@@ -1,13 +1,13 @@
 -- The content that tables and a draft hold.
-use Rattle.std.specs.Prelude.{take}
+use Rattle.costs.specs.declared.kind.Kind.{Ghosts}
 use Rattle.board.specs.declared.tables.Tables.{Tables}
 use Rattle.board.specs.declared.draft.Draft.{Draft}
-use Rattle.board.specs.Content.{Content}
+use Rattle.board.specs.Content.{Content, content}
 
--- the first rows and lines of the arrays, as many as are counted
-abbrev pub held : Tables → Content
-held t = record { modes = t.modes; moments = t.moments; rows = take t.row_count t.rows; lines = take t.line_count t.lines }
+-- the size, the rows and the lines
+abbrev pub held : {K : Type 0} {k : Ghosts K} → Tables K k → Content
+held t = content t.modes t.moments t.rows.items t.lines.items
 
 -- the content of a draft
-abbrev pub draft_content : {K : Type 0} → Draft K → Content
+abbrev pub draft_content : {K : Type 0} {k : Ghosts K} → Draft K k → Content
 draft_content d = held d.tables

@@ -18,13 +18,11 @@ pub mod Logged
 pub mod Boards
 pub mod Examples
 -- What only inner functions and proofs name, but for `records` of Logs, by which Boards says what a settled board holds.
-pub mod Fits
 pub mod Checkers
 pub mod Offered
 pub mod Grown
 pub mod Logs
-pub mod Priced
+pub mod Offering
 pub mod Spelled
 pub mod Cursors
-pub mod Invariants
 pub mod Entries

@@ -9,6 +9,7 @@ mod log;
 mod moves;
 mod named;
 mod packing;
+mod priced;
 mod reading;
 mod refusal;
 mod row;

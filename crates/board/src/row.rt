@@ -3,9 +3,10 @@ ghost use Rattle.std.specs.Prelude.{◌≡◌};
 ghost use Rattle.board.specs.Rows.{kind_number, formed};
 
 // What a row does. The numbers are those of the file format.
-#[derive(Clone, Copy)]
+#[derive(Clone, Copy, Default)]
 pub enum RowKind {
     // 0: changes the mode, alone or with a line of its event
+    #[default]
     Plain = 0,
     // 1: opens a bracket
     Open = 1,
@@ -16,7 +17,7 @@ pub enum RowKind {
 }
 
 // A row of the table.
-#[derive(Clone, Copy)]
+#[derive(Clone, Copy, Default)]
 pub struct Row {
     pub kind: RowKind,
     // the mode it leaves, and the mode it enters
@@ -29,7 +30,7 @@ pub struct Row {
 }
 
 // A line of the report.
-#[derive(Clone, Copy)]
+#[derive(Clone, Copy, Default)]
 pub struct Line {
     // the moment it leaves, and the moment it enters
     pub from: u8,

@@ -1,11 +1,12 @@
 // A settled board: its tables, and the log of the settled pairs.
 ghost use Rattle.std.specs.Prelude.{◌≡◌};
-ghost use Rattle.board.specs.Invariants.{Long, Placed, Found, Finds, Earlier, Measured, SmallMoves};
+ghost use Rattle.board.specs.Held.{held};
+ghost use Rattle.board.specs.Logs.{Book, Book-prop, records};
+ghost use Rattle.board.specs.Computing.{settled_log};
 
 use crate::log::Log;
 use crate::tables::Tables;
 use costs::Kind;
-use std::marker::PhantomData;
 
 mod questions;
 mod reading;
@@ -15,14 +16,8 @@ mod settle;
 // A settled board whose costs are of the kind K.
 #[derive(Drop)]
 pub struct Settled<K: Kind> {
-    tables: Tables,
+    tables: Tables<K>,
     log: Log,
-    kind: PhantomData<K>,
-    ghost long: { Long log },
-    ghost placed: { Placed tables log },
-    ghost found: { Found tables log },
-    ghost finds: { Finds tables log },
-    ghost earlier: { Earlier log },
-    ghost measured: { Measured log },
-    ghost small: { SmallMoves log },
+    ghost book: { Book K.meaning (held tables) log } by { Book-prop _ _ _ },
+    ghost settled: { records log ≡ settled_log K.meaning (held tables) },
 }

@@ -1,24 +1,20 @@
 // The tables of rows and lines, and their size.
-ghost use Rattle.std.specs.Prelude.{◌≡◌, ◌*◌, ◌<◌, ◌≤◌, length};
-ghost use Rattle.board.specs.Fits.{RowsIn, RowsFormed, LinesIn};
+ghost use Rattle.board.specs.Content.{content, Sound};
 
 use crate::row::{Line, Row};
+use arrayvec::ArrayVec;
+use costs::Kind;
+use std::marker::PhantomData;
 
 mod calls;
 
-// Fixed arrays, of which the first `row_count` and `line_count` entries are held.
-#[derive(Clone, Copy)]
-pub struct Tables {
+// The size, M modes and T moments, and at most 128 rows and 128 lines, whose costs are of the kind K.
+#[derive(Drop)]
+pub struct Tables<K: Kind> {
     pub(crate) modes: u8,
     pub(crate) moments: u8,
-    pub(crate) rows: [Row; 128],
-    pub(crate) row_count: usize,
-    pub(crate) lines: [Line; 128],
-    pub(crate) line_count: usize,
-    ghost room: { (row_count ≤ 128) × (line_count ≤ 128) },
-    ghost long: { (length rows ≡ 128) × (length lines ≡ 128) },
-    ghost sized: { (0 < modes) × (0 < moments) × (modes * moments ≤ 64) },
-    ghost rows_in: { RowsIn modes row_count rows },
-    ghost rows_formed: { RowsFormed row_count rows },
-    ghost lines_in: { LinesIn moments line_count lines },
+    pub(crate) rows: ArrayVec<Row, 128>,
+    pub(crate) lines: ArrayVec<Line, 128>,
+    pub(crate) kind: PhantomData<K>,
+    ghost sound: { Sound K.meaning (content modes moments rows.items lines.items) },
 }

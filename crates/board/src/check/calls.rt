@@ -9,9 +9,9 @@ use crate::refusal::Refusal;
 use crate::tables::Tables;
 use costs::Kind;
 
-impl Tables {
+impl<K: Kind> Tables<K> {
     // The cost of the complete reading that the moves are, or the first faulty move.
-    pub(crate) fn check<K: Kind>(&self, moves: &[u16]) -> Result<u32, Fault>
+    pub(crate) fn check(&self, moves: &[u16]) -> Result<u32, Fault>
         ensures answer { result ≡ check_answer K.meaning (held self.now) moves.now }
         ensures readings { AcceptsReadings K.meaning (held self.now) moves.now result }
     {

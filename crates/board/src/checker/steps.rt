@@ -93,7 +93,11 @@ impl Checker {
     }
 
     // Goes on by one packed move.
-    pub(crate) fn take_move<K: Kind>(&mut self, tables: &Tables, number: u16) -> Result<(), Refusal>
+    pub(crate) fn take_move<K: Kind>(
+        &mut self,
+        tables: &Tables<K>,
+        number: u16,
+    ) -> Result<(), Refusal>
         ensures { left result (progress_of self.new) ≡ take_move K.meaning (held tables.now) (progress_of self.old) number }
     {
         let Some(v) = Move::unpack(number) else {
@@ -102,7 +106,7 @@ impl Checker {
         let Some(named) = tables.named(v) else {
             return Err(Refusal::BadMove);
         };
-        self.take_named::<K>(tables.moments(), &named)
+        self.take_named::<K>(tables.moments, &named)
     }
 
     // Whether an end row was met.

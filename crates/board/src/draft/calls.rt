@@ -7,11 +7,11 @@ ghost use Rattle.board.specs.Held.{draft_content};
 ghost use Rattle.board.specs.Promises.{BoardPromises};
 
 use crate::draft::Draft;
+use crate::priced::reprice;
 use crate::refusal::Refusal;
 use crate::row::{Line, Row};
 use crate::tables::Tables;
 use costs::Kind;
-use std::marker::PhantomData;
 
 impl<K: Kind> Draft<K> {
     // A new board: one mode, one moment, nothing on it.
@@ -22,7 +22,6 @@ impl<K: Kind> Draft<K> {
     {
         Draft {
             tables: Tables::new(),
-            kind: PhantomData,
         }
     }
 
@@ -30,16 +29,17 @@ impl<K: Kind> Draft<K> {
     pub fn size(&mut self, modes: u32, moments: u32) -> Result<(), Refusal>
         ensures answer { result ≡ answer (size_fault (draft_content self.old) modes moments) tt }
         ensures after { draft_content self.new ≡ size_after (draft_content self.old) modes moments }
-        ensures kept { Sound K.meaning (draft_content self.old) → Sound K.meaning (draft_content self.new) }
     {
-        if self.tables.row_count() > 0 || self.tables.line_count() > 0 {
+        let tables = &mut self.tables;
+        if !tables.rows.is_empty() || !tables.lines.is_empty() {
             return Err(Refusal::NotEmpty);
         }
-        let places = modes as u64 * moments as u64;
+        let places = u64::from(modes) * u64::from(moments);
         if places == 0 || places > 64 {
             return Err(Refusal::SizeOut);
         }
-        self.tables.resize(modes as u8, moments as u8);
+        tables.modes = modes as u8;
+        tables.moments = moments as u8;
         Ok(())
     }
 
@@ -47,14 +47,12 @@ impl<K: Kind> Draft<K> {
     pub fn add_row(&mut self, row: Row) -> Result<usize, Refusal>
         ensures answer { result ≡ answer (row_fault K.meaning (draft_content self.old) row) (length (draft_content self.old).rows) }
         ensures after { draft_content self.new ≡ row_after K.meaning (draft_content self.old) row }
-        ensures kept { Sound K.meaning (draft_content self.old) → Sound K.meaning (draft_content self.new) }
     {
-        let n = self.tables.row_count();
-        if n >= 128 {
+        let tables = &mut self.tables;
+        if tables.rows.is_full() {
             return Err(Refusal::RowsFull);
         }
-        let modes = self.tables.modes();
-        if row.from >= modes || row.to >= modes {
+        if row.from >= tables.modes || row.to >= tables.modes {
             return Err(Refusal::ModeOut);
         }
         if !row.formed() {
@@ -63,7 +61,8 @@ impl<K: Kind> Draft<K> {
         if !K::is_cost(row.cost) {
             return Err(Refusal::NoCost);
         }
-        self.tables.push_row(row);
+        let n = tables.rows.len();
+        tables.rows.push(row);
         Ok(n)
     }
 
@@ -71,14 +70,12 @@ impl<K: Kind> Draft<K> {
     pub fn add_line(&mut self, line: Line) -> Result<usize, Refusal>
         ensures answer { result ≡ answer (line_fault K.meaning (draft_content self.old) line) (length (draft_content self.old).lines) }
         ensures after { draft_content self.new ≡ line_after K.meaning (draft_content self.old) line }
-        ensures kept { Sound K.meaning (draft_content self.old) → Sound K.meaning (draft_content self.new) }
     {
-        let n = self.tables.line_count();
-        if n >= 128 {
+        let tables = &mut self.tables;
+        if tables.lines.is_full() {
             return Err(Refusal::LinesFull);
         }
-        let moments = self.tables.moments();
-        if line.from >= moments || line.to >= moments {
+        if line.from >= tables.moments || line.to >= tables.moments {
             return Err(Refusal::MomentOut);
         }
         if line.event == 0 {
@@ -87,7 +84,8 @@ impl<K: Kind> Draft<K> {
         if !K::is_cost(line.cost) {
             return Err(Refusal::NoCost);
         }
-        self.tables.push_line(line);
+        let n = tables.lines.len();
+        tables.lines.push(line);
         Ok(n)
     }
 
@@ -95,40 +93,25 @@ impl<K: Kind> Draft<K> {
     pub fn reprice_row(&mut self, n: usize, cost: u32) -> Result<(), Refusal>
         ensures answer { result ≡ answer (reprice_fault K.meaning (draft_content self.old).rows n cost) tt }
         ensures after { draft_content self.new ≡ reprice_row_after K.meaning (draft_content self.old) n cost }
-        ensures kept { Sound K.meaning (draft_content self.old) → Sound K.meaning (draft_content self.new) }
     {
-        if n >= self.tables.row_count() {
-            return Err(Refusal::NoSuch);
-        }
-        if !K::is_cost(cost) {
-            return Err(Refusal::NoCost);
-        }
-        self.tables.price_row(n, cost);
-        Ok(())
+        reprice::<K, _, _>(&mut self.tables.rows, n, cost)
     }
 
     // Sets the cost of one line, and of no other.
     pub fn reprice_line(&mut self, n: usize, cost: u32) -> Result<(), Refusal>
         ensures answer { result ≡ answer (reprice_fault K.meaning (draft_content self.old).lines n cost) tt }
         ensures after { draft_content self.new ≡ reprice_line_after K.meaning (draft_content self.old) n cost }
-        ensures kept { Sound K.meaning (draft_content self.old) → Sound K.meaning (draft_content self.new) }
     {
-        if n >= self.tables.line_count() {
-            return Err(Refusal::NoSuch);
-        }
-        if !K::is_cost(cost) {
-            return Err(Refusal::NoCost);
-        }
-        self.tables.price_line(n, cost);
-        Ok(())
+        reprice::<K, _, _>(&mut self.tables.lines, n, cost)
     }
 
     // Drops all lines, and answers how many there were.
     pub fn clear_lines(&mut self) -> usize
         ensures answer { result ≡ length (draft_content self.old).lines }
         ensures after { draft_content self.new ≡ without_lines (draft_content self.old) }
-        ensures kept { Sound K.meaning (draft_content self.old) → Sound K.meaning (draft_content self.new) }
     {
-        self.tables.clear_lines()
+        let n = self.tables.lines.len();
+        self.tables.lines.clear();
+        n
     }
 }

@@ -77,13 +77,13 @@ impl Named {
     }
 }
 
-impl Tables {
+impl<K: Kind> Tables<K> {
     // What the move names: nothing where a row or line is not held, there is a line where the row takes none, or none
     // of the row's event.
     pub(crate) fn named(&self, v: Move) -> Option<Named>
         ensures { result ≡ named (held self.now) v }
     {
-        let Some(row) = self.row_at(v.row as usize) else {
+        let Some(row) = self.rows.get(v.row as usize).copied() else {
             return None;
         };
         let Some(number) = v.line else {
@@ -96,7 +96,7 @@ impl Tables {
         if !row.takes_line() {
             return None;
         }
-        let Some(line) = self.line_at(number as usize) else {
+        let Some(line) = self.lines.get(number as usize).copied() else {
             return None;
         };
         if line.event == row.label {
@@ -106,13 +106,13 @@ impl Tables {
         }
     }
     // Where the move leads from the place, if it starts there.
-    pub(crate) fn arrival<K: Kind>(&self, v: Move, place: Place) -> Option<Arrival>
+    pub(crate) fn arrival(&self, v: Move, place: Place) -> Option<Arrival>
         ensures { result ≡ arrival_on K.meaning (held self.now) v place }
     {
         let Some(named) = self.named(v) else {
             return None;
         };
-        if named.starts_at(self.moments(), place) {
+        if named.starts_at(self.moments, place) {
             Some(named.leads::<K>(place))
         } else {
             None

@@ -1,7 +1,5 @@
 // What a settled board answers.
 ghost use Rattle.std.specs.Prelude.{◌≡◌};
-ghost use Rattle.board.specs.Content.{Sound};
-ghost use Rattle.board.specs.Settling.{Settled as SettledLog};
 ghost use Rattle.board.specs.Boards.{settled_content, settled_records};
 ghost use Rattle.board.specs.Checks.{check_answer, AcceptsReadings};
 ghost use Rattle.board.specs.Paths.{GrammarIsStack};
@@ -19,7 +17,7 @@ impl<K: Kind> Settled<K> {
     // The recorded cost from the place numbered `from` to the place numbered `to`.
     pub fn between(&self, from: usize, to: usize) -> Result<u32, Refusal>
         ensures answer { result ≡ between_answer (settled_content self.now) (settled_records self.now) from to }
-        ensures means { Sound K.meaning (settled_content self.now) → SettledLog K.meaning (settled_content self.now) (settled_records self.now) → BetweenMeans K.meaning (settled_content self.now) from to result }
+        ensures means { BetweenMeans K.meaning (settled_content self.now) from to result }
     {
         let places = self.tables.modes as usize * self.tables.moments as usize;
         if from >= places || to >= places {
@@ -34,7 +32,7 @@ impl<K: Kind> Settled<K> {
     // The recorded reading's cost and number of moves, 65,536 where it has more.
     pub fn cost(&self) -> Result<(u32, u32), Refusal>
         ensures answer { result ≡ cost_answer K.meaning (settled_content self.now) (settled_records self.now) }
-        ensures means { Sound K.meaning (settled_content self.now) → SettledLog K.meaning (settled_content self.now) (settled_records self.now) → CostMeans K.meaning (settled_content self.now) (settled_records self.now) result }
+        ensures means { CostMeans K.meaning (settled_content self.now) (settled_records self.now) result }
     {
         match self.recorded() {
             Some(r) => Ok((r.cost, (self.log.lengths[r.entry] + 1).min(65536))),
@@ -46,7 +44,7 @@ impl<K: Kind> Settled<K> {
     pub fn path(&self, buffer: &mut [u16]) -> Result<usize, Refusal>
         ensures answer { result ≡ path_answer K.meaning (settled_content self.now) (settled_records self.now) buffer.old }
         ensures after { buffer.new ≡ path_after K.meaning (settled_content self.now) (settled_records self.now) buffer.old }
-        ensures means { Sound K.meaning (settled_content self.now) → SettledLog K.meaning (settled_content self.now) (settled_records self.now) → PathMeans K.meaning (settled_content self.now) (settled_records self.now) buffer.old result buffer.new }
+        ensures means { PathMeans K.meaning (settled_content self.now) (settled_records self.now) buffer.old result buffer.new }
     {
         let Some(r) = self.recorded() else {
             return Err(Refusal::NoReading);
@@ -72,6 +70,6 @@ impl<K: Kind> Settled<K> {
         ensures balance { GrammarIsStack }
         ensures moves { MovesComputed }
     {
-        self.tables.check::<K>(moves)
+        self.tables.check(moves)
     }
 }

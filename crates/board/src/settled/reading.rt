@@ -1,5 +1,5 @@
 // Finding the recorded reading.
-ghost use Rattle.std.specs.Prelude.{◌≡◌, ℕ, ◌<◌, Some};
+ghost use Rattle.std.specs.Prelude.{◌≡◌, ℕ, length};
 ghost use Rattle.board.specs.declared.log.Log.{Log};
 ghost use Rattle.board.specs.Boards.{settled_content, settled_records, entry_record, reading_of};
 ghost use Rattle.board.specs.Computing.{record_between, reading_at, better, found};
@@ -42,9 +42,9 @@ impl<K: Kind> Settled<K> {
     // The reading by the row at the place: the record from place 0 to there, and that row, if it is an end row.
     fn reading_at(&self, row: u8, place: Place) -> Option<Reading>
         ensures which { reading_of self.now.log result ≡ reading_at K.meaning (settled_content self.now) (settled_records self.now) row place }
-        ensures within { ReadingIn self.now.log.count self.now.tables.row_count result }
+        ensures within { ReadingIn self.now.log.count (length self.now.tables.rows.items) result }
     {
-        let Some(h) = self.tables.arrival::<K>(Move { row, line: None }, place) else {
+        let Some(h) = self.tables.arrival(Move { row, line: None }, place) else {
             return None;
         };
         let Some(entry) = self.entry_of(0, self.tables.place_number(place)) else {
@@ -60,14 +60,12 @@ impl<K: Kind> Settled<K> {
     // The recorded reading, if there is one.
     pub(crate) fn recorded(&self) -> Option<Reading>
         ensures which { reading_of self.now.log result ≡ found K.meaning (settled_content self.now) (settled_records self.now) }
-        ensures within { ReadingIn self.now.log.count self.now.tables.row_count result }
+        ensures within { ReadingIn self.now.log.count (length self.now.tables.rows.items) result }
     {
         let mut best = None;
-        let rows = self.tables.row_count as u8;
-        for row in 0..rows {
-            let mode = self.tables.rows[row as usize].from;
+        for (n, row) in self.tables.rows.iter().enumerate() {
             for moment in 0..self.tables.moments {
-                let next = self.reading_at(row, (mode, moment));
+                let next = self.reading_at(n as u8, (row.from, moment));
                 best = better::<K>(best, next);
             }
         }

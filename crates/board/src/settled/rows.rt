@@ -12,10 +12,6 @@ impl<K: Kind> Settled<K> {
     pub fn row(&self, n: usize) -> Option<Row>
         ensures { result ≡ slice_get (settled_content self.now).rows n }
     {
-        if n < self.tables.row_count {
-            Some(self.tables.rows[n])
-        } else {
-            None
-        }
+        self.tables.rows.get(n).copied()
     }
 }

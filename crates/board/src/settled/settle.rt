@@ -1,6 +1,5 @@
 // From a draft to a settled board.
 ghost use Rattle.std.specs.Prelude.{◌≡◌};
-ghost use Rattle.board.specs.Content.{Sound};
 ghost use Rattle.board.specs.Held.{draft_content};
 ghost use Rattle.board.specs.Boards.{settled_content, settled_records};
 ghost use Rattle.board.specs.Settling.{Settled as SettledLog};
@@ -10,26 +9,23 @@ ghost use Rattle.board.specs.Examples.{SettlingExamples};
 
 use crate::draft::Draft;
 use crate::settled::Settled;
-use crate::settling::log_of;
+use crate::settling::settled_log;
 use costs::Kind;
-use std::marker::PhantomData;
 
 impl<K: Kind> Draft<K> {
     // Settles the board: for every pair of places the record that the rounds reach.
     pub fn settle(self) -> Settled<K>
         ensures content { settled_content result ≡ draft_content self }
-        ensures records { Sound K.meaning (draft_content self) → SettledLog K.meaning (draft_content self) (settled_records result) }
-        ensures computed { Sound K.meaning (draft_content self) → settled_records result ≡ settled_log K.meaning (draft_content self) }
+        ensures records { SettledLog K.meaning (draft_content self) (settled_records result) }
+        ensures computed { settled_records result ≡ settled_log K.meaning (draft_content self) }
         ensures promises { BoardPromises }
         ensures example { SettlingExamples }
-        ensures cheapest { Sound K.meaning (draft_content self) → Cheapest K.meaning (draft_content self) (settled_records result) }
+        ensures cheapest { Cheapest K.meaning (draft_content self) (settled_records result) }
     {
-        let tables = self.tables;
-        let log = log_of::<K>(&tables);
+        let log = settled_log(&self.tables);
         Settled {
-            tables,
+            tables: self.tables,
             log,
-            kind: PhantomData,
         }
     }
 }
@@ -41,7 +37,6 @@ impl<K: Kind> Settled<K> {
     {
         Draft {
             tables: self.tables,
-            kind: PhantomData,
         }
     }
 }

@@ -1,36 +1,15 @@
 // Settling, entry by entry.
 ghost use Rattle.std.specs.Prelude.{◌≡◌, ◌+◌, ◌<◌, [], ◌∷◌, length, None as ANone, slice_index_or};
-ghost use Rattle.board.specs.Content.{Sound};
 ghost use Rattle.board.specs.Held.{held};
 ghost use Rattle.board.specs.Settling.{Settled, diagonal};
 ghost use Rattle.board.specs.Logged.{pair_of, record_of};
 ghost use Rattle.board.specs.Grown.{Refers};
 ghost use Rattle.board.specs.Logs.{State, Kept, Book, records, standing, Chosen, CostsBest, Reached, RoundMade};
-ghost use Rattle.board.specs.Invariants.{SmallMoves};
-ghost use Rattle.board.specs.Priced.{CostsHeld};
 
 use crate::log::{Entry, Log, Source};
-use crate::settling::Settling;
-use crate::settling::calls::offer_all;
-use crate::settling::priced::priced;
+use crate::settling::{Known, Settling};
 use crate::tables::Tables;
 use costs::Kind;
-
-// Settles an entry, and offers what uses it.
-fn settle_one<K: Kind>(t: &Tables, log: &mut Log, r: Entry, best: &mut [Option<Entry>])
-    requires state { State K.meaning t.now log.old best.old }
-    requires fresh { slice_index_or log.old.index (pair_of (held t.now) r.from r.to) ANone ≡ ANone }
-    requires kept { Kept K.meaning (held t.now) r }
-    requires refers { Refers log.old.count r.source }
-    ensures state { State K.meaning t.now log.new best.new }
-    ensures more { records log.new ≡ record_of (records log.old) r ∷ records log.old }
-    ensures count { log.new.count ≡ log.old.count + 1 }
-{
-    let n = log.count;
-    let k = log.length_of(r.source);
-    log.push(t.pair(r.from, r.to), r, k);
-    offer_all::<K>(t, log, n, best);
-}
 
 // What stands for the pair, where it is not settled.
 fn standing(log: &Log, best: &[Option<Entry>], pair: usize) -> Option<Entry>
@@ -63,79 +42,81 @@ fn least<K: Kind>(log: &Log, best: &[Option<Entry>]) -> Option<Entry>
     found
 }
 
-// Settles the diagonal: each place to itself, free.
-fn begin<K: Kind>(t: &Tables, log: &mut Log, best: &mut [Option<Entry>])
-    requires state { State K.meaning t.now log.old best.old }
-    requires empty { records log.old ≡ [] }
-    ensures state { State K.meaning t.now log.new best.new }
-    ensures diagonal { records log.new ≡ diagonal K.meaning (held t.now) }
-{
-    for mode in 0..t.modes {
-        for moment in 0..t.moments {
-            let p = (mode, moment);
-            let r = Entry {
-                from: p,
-                to: p,
-                cost: K::free(),
-                source: Source::Start,
-            };
-            settle_one::<K>(t, log, r, best);
+impl Settling {
+    // Nothing settled.
+    fn empty<K: Kind>(tables: &Tables<K>) -> Settling
+        ensures state { State K.meaning (held tables.now) result.log result.best }
+        ensures records { records result.log ≡ [] }
+    {
+        Settling {
+            log: Log::new(),
+            best: [None; 4096],
         }
     }
-}
 
-impl Settling {
-    // The diagonal settled, and what uses it offered.
-    fn new<K: Kind>(t: &Tables) -> Settling
-        requires { Sound K.meaning (held t.now) }
-        ensures state { State K.meaning t.now result.log result.best }
-        ensures reached { Reached K.meaning (held t.now) (records result.log) }
+    // Settles an entry, and offers what uses it.
+    fn settle<K: Kind>(&mut self, tables: &Tables<K>, r: Entry)
+        requires state { State K.meaning (held tables.now) self.old.log self.old.best }
+        requires fresh { slice_index_or self.old.log.index (pair_of (held tables.now) r.from r.to) ANone ≡ ANone }
+        requires kept { Kept K.meaning (held tables.now) r }
+        requires refers { Refers self.old.log.count r.source }
+        ensures state { State K.meaning (held tables.now) self.new.log self.new.best }
+        ensures more { records self.new.log ≡ record_of (records self.old.log) r ∷ records self.old.log }
+        ensures count { self.new.log.count ≡ self.old.log.count + 1 }
     {
-        let mut log = Log::new();
-        let mut best = [None; 4096];
-        begin::<K>(t, &mut log, &mut best);
-        Settling { log, best }
+        let n = self.log.count;
+        let moves = self.log.length_of(r.source);
+        self.log.push(tables.pair(r.from, r.to), r, moves);
+        let known = Known {
+            tables,
+            log: &self.log,
+        };
+        known.offer_all(n, &mut self.best);
+    }
+
+    // The diagonal settled, each place to itself, free, and what uses it offered.
+    fn new<K: Kind>(tables: &Tables<K>) -> Settling
+        ensures state { State K.meaning (held tables.now) result.log result.best }
+        ensures reached { Reached K.meaning (held tables.now) (records result.log) }
+    {
+        let mut settling = Settling::empty(tables);
+        for mode in 0..tables.modes {
+            for moment in 0..tables.moments {
+                let place = (mode, moment);
+                let start = Entry {
+                    from: place,
+                    to: place,
+                    cost: K::free(),
+                    source: Source::Start,
+                };
+                settling.settle(tables, start);
+            }
+        }
+        settling
     }
 
     // Makes one round: settles the least candidate below the worst, or says that there is none.
-    fn round<K: Kind>(&mut self, t: &Tables) -> bool
-        requires state { State K.meaning t.now self.old.log self.old.best }
-        requires reached { Reached K.meaning (held t.now) (records self.old.log) }
-        ensures state { State K.meaning t.now self.new.log self.new.best }
-        ensures reached { Reached K.meaning (held t.now) (records self.new.log) }
-        ensures made { RoundMade K.meaning (held t.now) self.old.log self.new.log result }
+    fn round<K: Kind>(&mut self, tables: &Tables<K>) -> bool
+        requires state { State K.meaning (held tables.now) self.old.log self.old.best }
+        requires reached { Reached K.meaning (held tables.now) (records self.old.log) }
+        ensures state { State K.meaning (held tables.now) self.new.log self.new.best }
+        ensures reached { Reached K.meaning (held tables.now) (records self.new.log) }
+        ensures made { RoundMade K.meaning (held tables.now) self.old.log self.new.log result }
     {
         let Some(r) = least::<K>(&self.log, &self.best) else {
             return false;
         };
-        settle_one::<K>(t, &mut self.log, r, &mut self.best);
+        self.settle(tables, r);
         true
     }
 }
 
 // The settled log of the tables.
-fn settled_log<K: Kind>(t: &Tables) -> Log
-    requires { Sound K.meaning (held t.now) }
-    ensures book { Book K.meaning (held t.now) result }
-    ensures settled { Settled K.meaning (held t.now) (records result) }
+pub(crate) fn settled_log<K: Kind>(tables: &Tables<K>) -> Log
+    ensures book { Book K.meaning (held tables.now) result }
+    ensures settled { Settled K.meaning (held tables.now) (records result) }
 {
-    let mut settling = Settling::new::<K>(t);
-    'rounds: loop {
-        if !settling.round::<K>(t) {
-            break 'rounds;
-        }
-    }
+    let mut settling = Settling::new(tables);
+    'rounds: while settling.round(tables) {}
     settling.log
-}
-
-// The settled log of the tables, where each cost that they hold is one of the kind; else an empty one.
-pub(crate) fn log_of<K: Kind>(t: &Tables) -> Log
-    ensures book { Book K.meaning (held t.now) result }
-    ensures small { SmallMoves result }
-    ensures settled { CostsHeld K.meaning (held t.now) → Settled K.meaning (held t.now) (records result) }
-{
-    if !priced::<K>(t) {
-        return Log::new();
-    }
-    settled_log::<K>(t)
 }

@@ -1,13 +1,16 @@
-use Rattle.std.proofs.Common.{◌≡◌, sym, subst, rules}
-use Rattle.board.specs.Content.{Sound}
-use Rattle.board.specs.Calls.{reprice_line_after}
+use Rattle.std.proofs.Common.{◌≡◌, List, sym, ap, ◌∙◌, subst}
+use Rattle.board.specs.declared.row.Line.{Line}
+use Rattle.board.specs.Content.{Content, content, Sound}
+use Rattle.board.specs.Calls.{reprice_fault, changed, line_at_cost, reprice_line_after}
 use Rattle.board.specs.Held.{held}
-use Rattle.board.proofs.Keeps.{reprice_line_keeps}
+use Rattle.board.proofs.Keeps.{unless_each, reprice_line_keeps}
 use Rattle.board.proofs.draft.Draft.reprice_line.Goals as goal
 
-pub returns : goal.returns
-returns g c =
+pub invariant_of-self : goal.invariant_of-self
+invariant_of-self g c =
     let m = g.K.Kind.meaning in
-    let before = held c.args.self.now.tables in
-    let after : held c.price_line.new.self ≡ reprice_line_after m before c.args.n c.args.cost = search rules in
-    record { answer = search rules; after = after; kept = λ s. subst (Sound m) (sym after) (reprice_line_keeps m before c.args.n c.args.cost s) }
+    let t = c.args.self.now.tables in
+    let put : List Line → Content = λ (xs : List Line). content t.modes t.moments t.rows.items xs in
+    let after : put c.reprice.new.items.items ≡ reprice_line_after m (held t) c.args.n c.args.cost =
+    ap put c.reprice.ensures.after ∙ unless_each put (reprice_fault m t.lines.items c.args.n c.args.cost) (changed (line_at_cost c.args.cost) t.lines.items c.args.n) t.lines.items in
+    record { sound = subst (Sound m) (sym after) (reprice_line_keeps m (held t) c.args.n c.args.cost t.sound) }

@@ -1,4 +1,5 @@
 use Rattle.std.proofs.Common.{ap, ◌∙◌}
+use Rattle.board.specs.Held.{held}
 use Rattle.board.specs.Boards.{settled_content, settled_records}
 use Rattle.board.specs.Computing.{record_between}
 use Rattle.board.specs.Logs.{nth_record}
@@ -13,5 +14,5 @@ returns g c =
     let at = ap (record_between (settled_content s) (settled_records s) 0) c.place_number.ensures.number in
     record {
       which = ending_is m c.args.row c.join-cost.result c.in-Some.h (nth_record s.log c.in-Some-entry_of.entry) _ _ c.in-Some.ensures (e.which ∙ at) c.if-not-is_end.ensures c.join-cost.ensures;
-      within = (e.within, row_listed m s.tables c.args.row c.args.place c.in-Some.h c.in-Some.ensures);
+      within = (e.within, row_listed m (held s.tables) c.args.row c.args.place c.in-Some.h c.in-Some.ensures);
     }

@@ -4,11 +4,11 @@ use Rattle.board.specs.Logs.{records}
 use Rattle.board.proofs.Scanning.{moments_none, moments_more, rows_none, rows_more, rows_all}
 use Rattle.board.proofs.settled.Settled.recorded.Goals as goal
 
-pub loop-row-init : goal.loop-row-init
-loop-row-init g c = (rows_none g.K.Kind.meaning (held c.args.self.now.tables) (records c.args.self.now.log), tt)
+pub loop-n-init : goal.loop-n-init
+loop-n-init g c = (rows_none g.K.Kind.meaning (held c.args.self.now.tables) (records c.args.self.now.log), tt)
 
 pub loop-moment-init : goal.loop-moment-init
-loop-moment-init g c = (c.loop-row.invariant.0 ∙ moments_none _ _ _ _ _ _, c.loop-row.invariant.1)
+loop-moment-init g c = (c.loop-n.invariant.0 ∙ moments_none _ _ _ _ _ _, c.loop-n.invariant.1)
 
 pub loop-moment-preserved : goal.loop-moment-preserved
 loop-moment-preserved g c =
@@ -17,12 +17,12 @@ loop-moment-preserved g c =
       c.better-best.ensures.within _ _ c.loop-moment.invariant.1 c.reading_at-next.ensures.within,
     )
 
-pub loop-row-preserved : goal.loop-row-preserved
-loop-row-preserved g c =
+pub loop-n-preserved : goal.loop-n-preserved
+loop-n-preserved g c =
     let s = c.args.self.now in
-    (rows_more g.K.Kind.meaning s.tables (records s.log) _ _ _ _ c.loop-row-test.true c.loop-moment.auto.moment-end c.loop-moment-test.false c.loop-moment.invariant.0, c.loop-moment.invariant.1)
+    (rows_more g.K.Kind.meaning (held s.tables) (records s.log) _ _ _ _ _ c.deref-row-items.ensures.0 c.loop-n-test.true c.loop-moment.auto.moment-end c.loop-moment-test.false c.loop-moment.invariant.0, c.loop-moment.invariant.1)
 
 pub returns : goal.returns
 returns g c =
     let s = c.args.self.now in
-    record { which = rows_all g.K.Kind.meaning s.tables (records s.log) _ _ c.loop-row.auto.row-end c.loop-row-test.false c.loop-row.invariant.0; within = c.loop-row.invariant.1 }
+    record { which = rows_all g.K.Kind.meaning (held s.tables) (records s.log) _ _ _ c.deref-row-items.ensures.0 c.loop-n.auto.n-end c.loop-n-test.false c.loop-n.invariant.0; within = c.loop-n.invariant.1 }

@@ -1,4 +1,4 @@
-use Rattle.std.proofs.Common.{◌≡◌}
+use Rattle.std.proofs.Common.{◌≡◌, length}
 use Rattle.board.specs.Held.{held}
 use Rattle.board.specs.Logs.{records}
 use Rattle.board.specs.Computing.{best_moments, best_rows}
@@ -6,16 +6,16 @@ use Rattle.board.specs.Boards.{reading_of}
 use Rattle.board.specs.Entries.{ReadingIn}
 use Rattle.board.proofs.settled.Settled.recorded.Given as goal
 
-abbrev pub invariant-loop-row : goal.invariant-loop-row
-invariant-loop-row g l =
+abbrev pub invariant-loop-n : goal.invariant-loop-n
+invariant-loop-n g l =
     let s = l.self in
-    (reading_of s.log l.best ≡ best_rows g.K.Kind.meaning (held s.tables) (records s.log) l.row)
-    × ReadingIn s.log.count s.tables.row_count l.best
+    (reading_of s.log l.best ≡ best_rows g.K.Kind.meaning (held s.tables) (records s.log) l.n)
+    × ReadingIn s.log.count (length s.tables.rows.items) l.best
 
 abbrev pub invariant-loop-moment : goal.invariant-loop-moment
 invariant-loop-moment g l =
     let s = l.self in
     let m = g.K.Kind.meaning in
     let c = held s.tables in
-    (reading_of s.log l.best ≡ best_moments m c (records s.log) l.row l.mode l.moment (best_rows m c (records s.log) l.row))
-    × ReadingIn s.log.count s.tables.row_count l.best
+    (reading_of s.log l.best ≡ best_moments m c (records s.log) l.n l.row.from l.moment (best_rows m c (records s.log) l.n))
+    × ReadingIn s.log.count (length s.tables.rows.items) l.best

@@ -14,8 +14,8 @@ returns-in_default g c = record {
   made = (record { rounds = c.requires.reached.0; reached = c.requires.reached.1; done = none_left g.met.K.Kind.lawful c.requires.state c.in_default.ensures }, refl);
 }
 
-pub settle_one-requires : goal.settle_one-requires
-settle_one-requires g c = record {
+pub settle-requires : goal.settle-requires
+settle-requires g c = record {
   state = c.requires.state;
   fresh = round_fresh g.met.K.Kind.lawful c.requires.state c.in-Some.r c.in-Some.ensures;
   kept = round_kept g.met.K.Kind.lawful c.requires.state c.in-Some.r c.in-Some.ensures;
@@ -26,7 +26,7 @@ pub returns : goal.returns
 returns g c =
     let added = round_is g.met.K.Kind.lawful c.requires.state c.in-Some.r c.in-Some.ensures in
     record {
-      state = c.settle_one.ensures.state;
-      reached = (suc c.requires.reached.0, subst (Rounds g.K.Kind.meaning (held c.args.t.now) (suc c.requires.reached.0)) (sym c.settle_one.ensures.more) (round c.requires.reached.1 added));
-      made = record { added = _; round = added; more = c.settle_one.ensures.more; count = c.settle_one.ensures.count };
+      state = c.settle.ensures.state;
+      reached = (suc c.requires.reached.0, subst (Rounds g.K.Kind.meaning (held c.args.tables.now) (suc c.requires.reached.0)) (sym c.settle.ensures.more) (round c.requires.reached.1 added));
+      made = record { added = _; round = added; more = c.settle.ensures.more; count = c.settle.ensures.count };
     }

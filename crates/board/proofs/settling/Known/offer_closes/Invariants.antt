@@ -1,0 +1,7 @@
+use Rattle.board.specs.Held.{held}
+use Rattle.board.proofs.settling.Known.offer_closes.Given as goal
+use Rattle.board.specs.Grown.{Upto}
+use Rattle.board.specs.Logs.{Grows, CallBy}
+
+abbrev pub invariant-loop-row : goal.invariant-loop-row
+invariant-loop-row g l = Grows g.K.Kind.meaning (held l.self.tables.now) l.self.log.now l.initial.best l.best (Upto (CallBy g.K.Kind.meaning (held l.self.tables.now) l.self.log.now l.o.front l.o.inside l.o.row) l.row)

@@ -1,6 +1,0 @@
-use Rattle.board.proofs.settling.calls.offer_closes.Given as goal
-use Rattle.board.specs.Grown.{Upto}
-use Rattle.board.specs.Logs.{Grows, CallBy}
-
-abbrev pub invariant-loop-row : goal.invariant-loop-row
-invariant-loop-row g l = Grows g.K.Kind.meaning l.t l.log l.initial.best l.best (Upto (CallBy g.K.Kind.meaning l.t l.log l.o.front l.o.inside l.o.row) l.row)

@@ -1,6 +1,0 @@
-use Rattle.board.proofs.settling.calls.offer_fronts.Given as goal
-use Rattle.board.specs.Grown.{Upto}
-use Rattle.board.specs.Logs.{Grows, CallsAt}
-
-abbrev pub invariant-loop-s : goal.invariant-loop-s
-invariant-loop-s g l = Grows g.K.Kind.meaning l.t l.log l.initial.best l.best (Upto (CallsAt g.K.Kind.meaning l.t l.log l.j l.row) l.s)

@@ -1,6 +1,0 @@
-use Rattle.board.proofs.settling.calls.offer_insides.Given as goal
-use Rattle.board.specs.Grown.{Upto}
-use Rattle.board.specs.Logs.{Grows, CallsTo}
-
-abbrev pub invariant-loop-u : goal.invariant-loop-u
-invariant-loop-u g l = Grows g.K.Kind.meaning l.t l.log l.initial.best l.best (Upto (CallsTo g.K.Kind.meaning l.t l.log l.i l.row) l.u)
