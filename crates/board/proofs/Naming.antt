@@ -11,10 +11,9 @@ use Rattle.board.specs.declared.moves.Move.{Move}
 use Rattle.board.specs.declared.moves.Effect.{Effect}
 use Rattle.board.specs.declared.moves.Arrival.{Arrival}
 use Rattle.board.specs.declared.named.Named.{Named}
-use Rattle.board.specs.declared.named.Named.TheVariants.{Alone, Along}
 use Rattle.board.specs.Content.{Content}
 use Rattle.board.specs.Moves.{Place, mode, moment, effect, Untimed, Timed, Transition, EndMoment}
-use Rattle.board.specs.Arrivals.{takes_line, named_line, named_by, named_row, named, timely, starts_at, leads}
+use Rattle.board.specs.Arrivals.{alone, along, takes_line, named_line, named_by, named_row, named, timely, starts_at, leads}
 use Rattle.board.proofs.Elements.{no_some}
 
 pub some_in : {A : Type 0} (x y : A) → Some x ≡ Some y → x ≡ y
@@ -64,13 +63,13 @@ module _ (m : Meaning) (c : Content) (v : Move) (p : Place) where
   abbrev Going : Named → Type 0
   Going n = Transition m c v p (leads m n p).to (leads m n p).cost (leads m n p).effect
 
-  alone_goes : (r : Row) → slice_get c.rows v.row ≡ Some r → v.line ≡ None → (r.kind ≡ Plain → r.label ≡ 0) → starts_at c.moments (Alone r) p ≡ true → Going (Alone r)
+  alone_goes : (r : Row) → slice_get c.rows v.row ≡ Some r → v.line ≡ None → (r.kind ≡ Plain → r.label ≡ 0) → starts_at c.moments (alone r) p ≡ true → Going (alone r)
   alone_goes r found bare no_event s =
       let z = and_parts _ _ s in
       let t = and_parts _ _ z.1 in
       record { by = r; found = found; leaves = eqb-true _ _ z.0; enters = refl; does = refl; time = inl (record { alone = bare; no_event = no_event; at_end = timely_true r.kind _ _ t.1; there = ltb-true _ _ t.0; keeps = refl; price = refl }) }
 
-  along_goes : (r : Row) (l : Line) (j : ℕ) → slice_get c.rows v.row ≡ Some r → slice_get c.lines j ≡ Some l → v.line ≡ Some j → r.kind ≡ Plain → (r.label ≡ 0 → ⊥) → l.event ≡ r.label → starts_at c.moments (Along r l) p ≡ true → Going (Along r l)
+  along_goes : (r : Row) (l : Line) (j : ℕ) → slice_get c.rows v.row ≡ Some r → slice_get c.lines j ≡ Some l → v.line ≡ Some j → r.kind ≡ Plain → (r.label ≡ 0 → ⊥) → l.event ≡ r.label → starts_at c.moments (along r l) p ≡ true → Going (along r l)
   along_goes r l j found held with is_plain some_event same s =
       let z = and_parts _ _ s in
       record { by = r; found = found; leaves = eqb-true _ _ z.0; enters = refl; does = refl; time = inr (record { number = j; taken = l; along = with; found = held; is_plain = is_plain; some_event = some_event; same_event = same; start = eqb-true _ _ z.1; arrive = refl; price = refl }) }
@@ -79,13 +78,13 @@ module _ (m : Meaning) (c : Content) (v : Move) (p : Place) where
   by_line r n j None found held with is_plain some_event e s = absurd (no_some n e)
   by_line r n j (Some l) found held with is_plain some_event e s =
       let z = cond_some _ _ _ e in
-      let n-is : Along r l ≡ n = some_in _ _ z.1 in
+      let n-is : along r l ≡ n = some_in _ _ z.1 in
       subst Going n-is (along_goes r l j found held with is_plain some_event (eqb-true _ _ z.0) (subst (λ x. starts_at c.moments x p ≡ true) (sym n-is) s))
 
   by_time : (r : Row) (w : Option ℕ) (n : Named) → slice_get c.rows v.row ≡ Some r → v.line ≡ w → named_by c.lines r w ≡ Some n → starts_at c.moments n p ≡ true → Going n
   by_time r None n found ew e s =
       let z = cond_other _ _ _ e in
-      let n-is : Alone r ≡ n = some_in _ _ z.1 in
+      let n-is : alone r ≡ n = some_in _ _ z.1 in
       subst Going n-is (alone_goes r found ew (no_line r.kind r.label z.0) (subst (λ x. starts_at c.moments x p ≡ true) (sym n-is) s))
   by_time r (Some j) n found ew e s =
       let z = cond_some _ _ _ e in
@@ -113,7 +112,7 @@ pub record Passing (m : Meaning) (c : Content) (v : Move) (p : Place) (a : Arriv
 module _ (m : Meaning) (c : Content) (v : Move) (p q : Place) (k : ℕ) (e : Effect) where
   from_untimed : (r : Row) → slice_get c.rows v.row ≡ Some r → mode p ≡ r.from → mode q ≡ r.to → e ≡ effect r → Untimed c r v.line (moment p) (moment q) k → Passing m c v p (record { to = q; cost = k; effect = e })
   from_untimed r found leaves enters does s = record {
-    name = Alone r;
+    name = alone r;
     named_so = ap (named_row c.lines v.line) found ∙ ap (named_by c.lines r) s.alone ∙ cond-false _ _ _ (from_no_line r.kind r.label s.no_event);
     starts = and_from _ _ (eq-eqb _ _ leaves) (and_from _ _ (lt-ltb _ _ s.there) (timely_from r.kind _ _ s.at_end));
     leads_on = arrival_eq _ _ (sym enters) s.keeps (sym s.price) (sym does);
@@ -121,7 +120,7 @@ module _ (m : Meaning) (c : Content) (v : Move) (p q : Place) (k : ℕ) (e : Eff
 
   from_timed : (r : Row) → slice_get c.rows v.row ≡ Some r → mode p ≡ r.from → mode q ≡ r.to → e ≡ effect r → Timed m c r v.line (moment p) (moment q) k → Passing m c v p (record { to = q; cost = k; effect = e })
   from_timed r found leaves enters does s = record {
-    name = Along r s.taken;
+    name = along r s.taken;
     named_so =
         ap (named_row c.lines v.line) found
         ∙ ap (named_by c.lines r) s.along

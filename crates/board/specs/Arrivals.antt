@@ -9,7 +9,6 @@ use Rattle.board.specs.declared.row.Line.{Line}
 use Rattle.board.specs.declared.moves.Move.{Move}
 use Rattle.board.specs.declared.moves.Arrival.{Arrival}
 use Rattle.board.specs.declared.named.Named.{Named}
-use Rattle.board.specs.declared.named.Named.TheVariants.{Alone, Along}
 use Rattle.board.specs.Content.{Content}
 use Rattle.board.specs.Moves.{Place, mode, moment, effect, move_row, end_moment?}
 
@@ -20,14 +19,22 @@ takes_line Open label = false
 takes_line Close label = false
 takes_line End label = false
 
+-- a row that takes no line
+abbrev pub alone : Row → Named
+alone r = record { row = r; line = None }
+
+-- a row with a line
+abbrev pub along : Row → Line → Named
+along r l = record { row = r; line = Some l }
+
 -- the row with this line, if it is of the row's event
 abbrev pub named_line : Row → Option Line → Option Named
 named_line r None = None
-named_line r (Some l) = cond (l.event == r.label) (Some (Along r l)) None
+named_line r (Some l) = cond (l.event == r.label) (Some (along r l)) None
 
 -- the row alone if it takes no line and none is given, or with the line given if it takes one
 abbrev pub named_by : List Line → Row → Option ℕ → Option Named
-named_by ls r None = cond (takes_line r.kind r.label) None (Some (Alone r))
+named_by ls r None = cond (takes_line r.kind r.label) None (Some (alone r))
 named_by ls r (Some j) = cond (takes_line r.kind r.label) (named_line r (slice_get ls j)) None
 
 -- the same, if there is such a row
@@ -47,16 +54,24 @@ timely Open moments t = true
 timely Close moments t = true
 timely End moments t = end_moment? moments t
 
--- whether what is named starts at the place: in the row's mode, and at the line's moment; without a line at any moment of
--- the board, an end row at the last one only
-abbrev pub starts_at : ℕ → Named → Place → Bool
-starts_at moments (Alone r) p = mode p == r.from && (nat_lt (moment p) moments && timely r.kind moments (moment p))
-starts_at moments (Along r l) p = mode p == r.from && moment p == l.from
+-- whether a row with this line may start at the moment: at the line's moment; without a line at any moment of the board,
+-- an end row at the last one only
+abbrev pub starts_then : ℕ → Row → Option Line → ℕ → Bool
+starts_then moments r None t = nat_lt t moments && timely r.kind moments t
+starts_then moments r (Some l) t = t == l.from
 
--- where it leads from there, at what cost, and what it does to the brackets
+-- whether what is named starts at the place: in the row's mode, at a moment when it may
+abbrev pub starts_at : ℕ → Named → Place → Bool
+starts_at moments n p = mode p == n.row.from && starts_then moments n.row n.line (moment p)
+
+-- where a row with this line leads from there, at what cost, and what it does to the brackets
+abbrev pub leads_by : Meaning → Row → Option Line → Place → Arrival
+leads_by m r None p = record { to = (r.to, moment p); cost = r.cost; effect = effect r }
+leads_by m r (Some l) p = record { to = (r.to, l.to); cost = m.join r.cost l.cost; effect = effect r }
+
+-- where what is named leads
 abbrev pub leads : Meaning → Named → Place → Arrival
-leads m (Alone r) p = record { to = (r.to, moment p); cost = r.cost; effect = effect r }
-leads m (Along r l) p = record { to = (r.to, l.to); cost = m.join r.cost l.cost; effect = effect r }
+leads m n p = leads_by m n.row n.line p
 
 -- where what is named leads from the place, if it starts there
 abbrev pub arrival_of : Meaning → ℕ → Option Named → Place → Option Arrival

@@ -1,18 +1,13 @@
 -- What the checker's state means.
-use Rattle.std.specs.Prelude.{ℕ, zero, suc, List, [], ◌∷◌, Ok, Err, Result, slice_index}
+use Rattle.std.specs.Prelude.{ℕ, List, reverse, Ok, Err, Result}
 use Rattle.board.specs.declared.checker.Brackets.{Brackets}
 use Rattle.board.specs.declared.checker.Checker.{Checker}
 use Rattle.board.specs.declared.refusal.Refusal.{Refusal}
 use Rattle.board.specs.Checks.{Progress}
 
--- the first n of a list, the last one first
-abbrev pub top_first : ℕ → List ℕ → List ℕ
-top_first zero xs = []
-top_first (suc n) xs = slice_index xs n ∷ top_first n xs
-
 -- the brackets that are open, the last one first
 abbrev pub unclosed_of : Brackets → List ℕ
-unclosed_of b = top_first b.depth b.stack
+unclosed_of b = reverse b.open.items
 
 -- how far the checker has come
 abbrev pub progress_of : Checker → Progress

@@ -5,7 +5,7 @@ mod calls;
 
 // A row that takes no line, or a row with a line of its event.
 #[derive(Clone, Copy)]
-pub(crate) enum Named {
-    Alone(Row),
-    Along(Row, Line),
+pub(crate) struct Named {
+    row: Row,
+    line: Option<Line>,
 }

@@ -17,9 +17,9 @@ impl<K: Kind> Tables<K> {
     {
         let mut checker = Checker::new::<K>();
         for (index, number) in moves.iter().enumerate() {
-            if let Err(refusal) = checker.take_move::<K>(self, *number) {
-                return Err(Fault { index, refusal });
-            }
+            checker
+                .take_move::<K>(self, *number)
+                .map_err(move |refusal| Fault { index, refusal })?;
         }
         if !checker.has_ended() {
             return Err(Fault {

@@ -10,6 +10,7 @@ use crate::moves::{Effect, Move};
 use crate::named::Named;
 use crate::refusal::Refusal;
 use crate::tables::Tables;
+use arrayvec::ArrayVec;
 use costs::Kind;
 
 impl Effect {
@@ -30,8 +31,7 @@ impl Brackets {
         ensures { unclosed_of result ≡ [] }
     {
         Brackets {
-            stack: [0; 4096],
-            depth: 0,
+            open: ArrayVec::new(),
         }
     }
 
@@ -42,20 +42,18 @@ impl Brackets {
         match effect {
             Effect::Quiet => {}
             Effect::Opens(bracket) => {
-                if self.depth >= 4096 {
+                if self.open.is_full() {
                     return Err(Refusal::TooDeep);
                 }
-                self.stack[self.depth] = bracket;
-                self.depth += 1;
+                self.open.push(bracket);
             }
             Effect::Closes(bracket) => {
-                if self.depth == 0 || self.stack[self.depth - 1] != bracket {
+                if self.open.pop() != Some(bracket) {
                     return Err(Refusal::BadBracket);
                 }
-                self.depth -= 1;
             }
             Effect::Ends => {
-                if self.depth > 0 {
+                if !self.open.is_empty() {
                     return Err(Refusal::BadBracket);
                 }
             }
@@ -100,12 +98,8 @@ impl Checker {
     ) -> Result<(), Refusal>
         ensures { left result (progress_of self.new) ≡ take_move K.meaning (held tables.now) (progress_of self.old) number }
     {
-        let Some(v) = Move::unpack(number) else {
-            return Err(Refusal::BadMove);
-        };
-        let Some(named) = tables.named(v) else {
-            return Err(Refusal::BadMove);
-        };
+        let v = Move::unpack(number).ok_or(Refusal::BadMove)?;
+        let named = tables.named(v).ok_or(Refusal::BadMove)?;
         self.take_named::<K>(tables.moments, &named)
     }
 

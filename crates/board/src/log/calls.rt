@@ -31,10 +31,7 @@ impl Log {
         requires { pair < 4096 }
         ensures { result ≡ slice_index_or self.now.index pair ANone }
     {
-        match self.index[pair] {
-            Some(i) => Some(i as usize),
-            None => None,
-        }
+        self.index[pair].map(usize::from)
     }
 
     // Settles a pair by an entry that spells out so many moves.

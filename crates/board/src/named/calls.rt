@@ -50,29 +50,26 @@ impl Named {
     pub(crate) fn starts_at(&self, moments: u8, place: Place) -> bool
         ensures { result ≡ starts_at moments self.now place }
     {
-        match self {
-            Named::Alone(row) => place.0 == row.from
-                && place.1 < moments
-                && row.timely(moments, place.1),
-            Named::Along(row, line) => place.0 == row.from && place.1 == line.from,
-        }
+        let then = match self.line {
+            None => place.1 < moments && self.row.timely(moments, place.1),
+            Some(line) => place.1 == line.from,
+        };
+        place.0 == self.row.from && then
     }
 
     // Where it leads from the place, at what cost, and what it does to the brackets.
     pub(crate) fn leads<K: Kind>(&self, place: Place) -> Arrival
         ensures { result ≡ leads K.meaning self.now place }
     {
-        match self {
-            Named::Alone(row) => Arrival {
-                to: (row.to, place.1),
-                cost: row.cost,
-                effect: row.effect(),
-            },
-            Named::Along(row, line) => Arrival {
-                to: (row.to, line.to),
-                cost: K::join(row.cost, line.cost),
-                effect: row.effect(),
-            },
+        let row = self.row;
+        let (moment, cost) = match self.line {
+            None => (place.1, row.cost),
+            Some(line) => (line.to, K::join(row.cost, line.cost)),
+        };
+        Arrival {
+            to: (row.to, moment),
+            cost,
+            effect: row.effect(),
         }
     }
 }
@@ -83,35 +80,30 @@ impl<K: Kind> Tables<K> {
     pub(crate) fn named(&self, v: Move) -> Option<Named>
         ensures { result ≡ named (held self.now) v }
     {
-        let Some(row) = self.rows.get(v.row as usize).copied() else {
-            return None;
-        };
+        let row = self.rows.get(v.row as usize).copied()?;
         let Some(number) = v.line else {
             return if row.takes_line() {
                 None
             } else {
-                Some(Named::Alone(row))
+                Some(Named { row, line: None })
             };
         };
-        if !row.takes_line() {
-            return None;
-        }
-        let Some(line) = self.lines.get(number as usize).copied() else {
-            return None;
-        };
-        if line.event == row.label {
-            Some(Named::Along(row, line))
+        let line = self.lines.get(number as usize).copied()?;
+        if row.takes_line() && line.event == row.label {
+            Some(Named {
+                row,
+                line: Some(line),
+            })
         } else {
             None
         }
     }
+
     // Where the move leads from the place, if it starts there.
     pub(crate) fn arrival(&self, v: Move, place: Place) -> Option<Arrival>
         ensures { result ≡ arrival_on K.meaning (held self.now) v place }
     {
-        let Some(named) = self.named(v) else {
-            return None;
-        };
+        let named = self.named(v)?;
         if named.starts_at(self.moments, place) {
             Some(named.leads::<K>(place))
         } else {

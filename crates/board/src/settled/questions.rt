@@ -23,10 +23,8 @@ impl<K: Kind> Settled<K> {
         if from >= places || to >= places {
             return Err(Refusal::PlaceOut);
         }
-        match self.entry_of(from, to) {
-            Some(i) => Ok(self.log.entries[i].cost),
-            None => Err(Refusal::Unsettled),
-        }
+        let i = self.entry_of(from, to).ok_or(Refusal::Unsettled)?;
+        Ok(self.log.entries[i].cost)
     }
 
     // The recorded reading's cost and number of moves, 65,536 where it has more.
@@ -34,10 +32,8 @@ impl<K: Kind> Settled<K> {
         ensures answer { result ≡ cost_answer K.meaning (settled_content self.now) (settled_records self.now) }
         ensures means { CostMeans K.meaning (settled_content self.now) (settled_records self.now) result }
     {
-        match self.recorded() {
-            Some(r) => Ok((r.cost, (self.log.lengths[r.entry] + 1).min(65536))),
-            None => Err(Refusal::NoReading),
-        }
+        let r = self.recorded().ok_or(Refusal::NoReading)?;
+        Ok((r.cost, (self.log.lengths[r.entry] + 1).min(65536)))
     }
 
     // Writes the recorded reading's packed moves to the front of the buffer, and answers how many.
@@ -46,9 +42,7 @@ impl<K: Kind> Settled<K> {
         ensures after { buffer.new ≡ path_after K.meaning (settled_content self.now) (settled_records self.now) buffer.old }
         ensures means { PathMeans K.meaning (settled_content self.now) (settled_records self.now) buffer.old result buffer.new }
     {
-        let Some(r) = self.recorded() else {
-            return Err(Refusal::NoReading);
-        };
+        let r = self.recorded().ok_or(Refusal::NoReading)?;
         let moves = self.log.lengths[r.entry] as usize;
         if moves >= buffer.len() || moves >= 65535 {
             return Err(Refusal::TooLong);

@@ -19,10 +19,7 @@ fn better<K: Kind>(a: Option<Reading>, b: Option<Reading>) -> Option<Reading>
     let Some(x) = b else {
         return a;
     };
-    let limit = match a {
-        Some(f) => f.cost,
-        None => K::worst(),
-    };
+    let limit = a.map_or(K::worst(), |f| f.cost);
     if K::no_dearer(limit, x.cost) { a } else { b }
 }
 
@@ -44,12 +41,8 @@ impl<K: Kind> Settled<K> {
         ensures which { reading_of self.now.log result ≡ reading_at K.meaning (settled_content self.now) (settled_records self.now) row place }
         ensures within { ReadingIn self.now.log.count (length self.now.tables.rows.items) result }
     {
-        let Some(h) = self.tables.arrival(Move { row, line: None }, place) else {
-            return None;
-        };
-        let Some(entry) = self.entry_of(0, self.tables.place_number(place)) else {
-            return None;
-        };
+        let h = self.tables.arrival(Move { row, line: None }, place)?;
+        let entry = self.entry_of(0, self.tables.place_number(place))?;
         if !h.effect.is_end() {
             return None;
         }

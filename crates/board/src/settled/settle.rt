@@ -22,11 +22,9 @@ impl<K: Kind> Draft<K> {
         ensures example { SettlingExamples }
         ensures cheapest { Cheapest K.meaning (draft_content self) (settled_records result) }
     {
-        let log = settled_log(&self.tables);
-        Settled {
-            tables: self.tables,
-            log,
-        }
+        let tables = self.tables;
+        let log = settled_log(&tables);
+        Settled { tables, log }
     }
 }
 

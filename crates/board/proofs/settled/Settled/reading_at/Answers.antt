@@ -10,9 +10,9 @@ pub returns : goal.returns
 returns g c =
     let m = g.K.Kind.meaning in
     let s = c.args.self.now in
-    let e = c.in-Some-entry_of.ensures in
+    let e = c.in_ok-entry.ensures in
     let at = ap (record_between (settled_content s) (settled_records s) 0) c.place_number.ensures.number in
     record {
-      which = ending_is m c.args.row c.join-cost.result c.in-Some.h (nth_record s.log c.in-Some-entry_of.entry) _ _ c.in-Some.ensures (e.which ∙ at) c.if-not-is_end.ensures c.join-cost.ensures;
-      within = (e.within, row_listed m (held s.tables) c.args.row c.args.place c.in-Some.h c.in-Some.ensures);
+      which = ending_is m c.args.row c.join-cost.result c.in_ok-h.h (nth_record s.log c.in_ok-entry.entry) _ _ c.in_ok-h.ensures (e.which ∙ at) c.if-not-is_end.ensures c.join-cost.ensures;
+      within = (e.within, row_listed m (held s.tables) c.args.row c.args.place c.in_ok-h.h c.in_ok-h.ensures);
     }
