@@ -9,9 +9,8 @@ use Rattle.board.specs.Rows.{formed}
 use Rattle.board.specs.Content.{Content}
 use Rattle.board.specs.Calls.{row_fault, row_after, with_row, line_fault, line_after, with_line}
 use Rattle.file.specs.declared.refusal.FileRefusal.TheVariants.{Board}
-use Rattle.file.specs.declared.records.RecordKind.TheVariants as kind
 use Rattle.file.specs.Fields.{row_read, line_read}
-use Rattle.file.specs.Records.{go_on, called, row_added, line_added, trusted_line, record_added, records}
+use Rattle.file.specs.Records.{go_on, called, row_added, line_added, trusted_line, row_record, line_record, records}
 use Rattle.file.specs.Layout.{row_word, line_word, row_bytes, line_bytes, each_written, Each, Byte, RowLimits, LineLimits}
 use Rattle.file.proofs.Called.{err_not_ok}
 use Rattle.file.proofs.Words.{RowFits, row_word_fits, row_word_read, row_read_word, LineFits, line_word_fits, line_word_read, line_read_word}
@@ -80,11 +79,11 @@ abbrev pub with_lines : Meaning → ℕ → Content → List Line → Content
 with_lines m trust c ls = record { modes = c.modes; moments = c.moments; rows = c.rows; lines = c.lines ++ map (trusted_line m trust) ls }
 
 module _ (m : Meaning) (trust : ℕ) where
-  row_forth : (c : Content) (r : Row) → RowFits r → TakesRow m c r → record_added m trust kind.Row c (row_word r) ≡ Ok (row_after m c r)
+  row_forth : (c : Content) (r : Row) → RowFits r → TakesRow m c r → row_record m c (row_word r) ≡ Ok (row_after m c r)
   unfolding row_added
   row_forth c r fits taken = rw (row_word_read r fits, taken)
 
-  row_back : (c d : Content) (w : ℕ) → w < 2 ^ 64 → record_added m trust kind.Row c w ≡ Ok d → WasAdded row_word RowFits (TakesRow m) (row_after m) c d w
+  row_back : (c d : Content) (w : ℕ) → w < 2 ^ 64 → row_record m c w ≡ Ok d → WasAdded row_word RowFits (TakesRow m) (row_after m) c d w
   unfolding row_added
   row_back c d w b h =
       let g = went_on (row_read w) (row_added m c) d h in
@@ -92,11 +91,11 @@ module _ (m : Meaning) (trust : ℕ) where
       let was = row_read_word w g.value b g.answered in
       record { entry = g.value; fits = was.0; is = was.1; taken = k.0; after = k.1 }
 
-  line_forth : (c : Content) (l : Line) → LineFits l → TakesLine m trust c l → record_added m trust kind.Line c (line_word l) ≡ Ok (line_put m trust c l)
+  line_forth : (c : Content) (l : Line) → LineFits l → TakesLine m trust c l → line_record m trust c (line_word l) ≡ Ok (line_put m trust c l)
   unfolding line_added
   line_forth c l fits taken = rw (line_word_read l fits, taken)
 
-  line_back : (c d : Content) (w : ℕ) → w < 2 ^ 64 → record_added m trust kind.Line c w ≡ Ok d → WasAdded line_word LineFits (TakesLine m trust) (line_put m trust) c d w
+  line_back : (c d : Content) (w : ℕ) → w < 2 ^ 64 → line_record m trust c w ≡ Ok d → WasAdded line_word LineFits (TakesLine m trust) (line_put m trust) c d w
   unfolding line_added
   line_back c d w b h =
       let g = went_on (line_read w) (λ (l : Line). line_added m c (trusted_line m trust l)) d h in
@@ -202,20 +201,20 @@ pub record LinesRead (m : Meaning) (trust : ℕ) (c d : Content) (n : ℕ) (bs :
   pub after : d ≡ with_lines m trust c lines
 
 module _ (m : Meaning) (trust : ℕ) where
-  pub rows_forth : (rs : List Row) (rest : List ℕ) (place : ℕ) (c : Content) → length c.rows + length rs ≤ 128 → Each (RowLimits m c.modes) rs → records m trust kind.Row (length rs) (each_written row_bytes rs ++ rest) place c ≡ Ok (with_rows c rs)
-  rows_forth rs rest place c few e = records_run m trust kind.Row row_word RowFits (TakesRow m) (row_after m) row_word_fits (row_forth m trust) (row_back m trust) rs rest place c (with_rows c rs) (limited_rows m trust rs c few e)
+  pub rows_forth : (rs : List Row) (rest : List ℕ) (place : ℕ) (c : Content) → length c.rows + length rs ≤ 128 → Each (RowLimits m c.modes) rs → records (row_record m) (length rs) (each_written row_bytes rs ++ rest) place c ≡ Ok (with_rows c rs)
+  rows_forth rs rest place c few e = records_run (row_record m) row_word RowFits (TakesRow m) (row_after m) row_word_fits (row_forth m trust) (row_back m trust) rs rest place c (with_rows c rs) (limited_rows m trust rs c few e)
 
-  pub rows_back : (n : ℕ) (bs : List ℕ) (place : ℕ) (c d : Content) → Each Byte bs → length c.rows ≤ 128 → records m trust kind.Row n bs place c ≡ Ok d → RowsRead m c d n bs
+  pub rows_back : (n : ℕ) (bs : List ℕ) (place : ℕ) (c d : Content) → Each Byte bs → length c.rows ≤ 128 → records (row_record m) n bs place c ≡ Ok d → RowsRead m c d n bs
   rows_back n bs place c d e few h =
-      let w = records_were m trust kind.Row row_word RowFits (TakesRow m) (row_after m) row_word_fits (row_forth m trust) (row_back m trust) n bs place c d e h in
+      let w = records_were (row_record m) row_word RowFits (TakesRow m) (row_after m) row_word_fits (row_forth m trust) (row_back m trust) n bs place c d e h in
       let l = rows_limited m trust w.entries c d few w.run in
       record { rows = w.entries; count = w.count; laid = w.laid; few = l.0; keep = l.1; after = l.2 }
 
-  pub lines_forth : (ls : List Line) (rest : List ℕ) (place : ℕ) (c : Content) → length c.lines + length ls ≤ 128 → Each (LineLimits m c.moments trust) ls → records m trust kind.Line (length ls) (each_written line_bytes ls ++ rest) place c ≡ Ok (with_lines m trust c ls)
-  lines_forth ls rest place c few e = records_run m trust kind.Line line_word LineFits (TakesLine m trust) (line_put m trust) line_word_fits (line_forth m trust) (line_back m trust) ls rest place c (with_lines m trust c ls) (limited_lines m trust ls c few e)
+  pub lines_forth : (ls : List Line) (rest : List ℕ) (place : ℕ) (c : Content) → length c.lines + length ls ≤ 128 → Each (LineLimits m c.moments trust) ls → records (line_record m trust) (length ls) (each_written line_bytes ls ++ rest) place c ≡ Ok (with_lines m trust c ls)
+  lines_forth ls rest place c few e = records_run (line_record m trust) line_word LineFits (TakesLine m trust) (line_put m trust) line_word_fits (line_forth m trust) (line_back m trust) ls rest place c (with_lines m trust c ls) (limited_lines m trust ls c few e)
 
-  pub lines_back : (n : ℕ) (bs : List ℕ) (place : ℕ) (c d : Content) → Each Byte bs → length c.lines ≤ 128 → records m trust kind.Line n bs place c ≡ Ok d → LinesRead m trust c d n bs
+  pub lines_back : (n : ℕ) (bs : List ℕ) (place : ℕ) (c d : Content) → Each Byte bs → length c.lines ≤ 128 → records (line_record m trust) n bs place c ≡ Ok d → LinesRead m trust c d n bs
   lines_back n bs place c d e few h =
-      let w = records_were m trust kind.Line line_word LineFits (TakesLine m trust) (line_put m trust) line_word_fits (line_forth m trust) (line_back m trust) n bs place c d e h in
+      let w = records_were (line_record m trust) line_word LineFits (TakesLine m trust) (line_put m trust) line_word_fits (line_forth m trust) (line_back m trust) n bs place c d e h in
       let l = lines_limited m trust w.entries c d few w.run in
       record { lines = w.entries; count = w.count; laid = w.laid; few = l.0; keep = l.1; after = l.2 }

@@ -9,14 +9,14 @@ use Rattle.board.specs.declared.row.Line.{Line}
 use Rattle.board.specs.Content.{Content}
 use Rattle.file.specs.declared.refusal.FileRefusal.TheVariants.{CutShort}
 use Rattle.file.specs.declared.refusal.LoadFault.{LoadFault}
-use Rattle.file.specs.declared.records.RecordKind.TheVariants as kind
 use Rattle.file.specs.Fields.{word2, head_code, head_count}
 use Rattle.file.specs.Parts.{Piece, fault_at}
 use Rattle.file.specs.Sections.{rows_code, lines_code, note_code, next_section, past}
-use Rattle.file.specs.Records.{go_on, trusted_line, records}
+use Rattle.file.specs.Records.{go_on, trusted_line, row_record, line_record, records}
 use Rattle.file.specs.Load.{Loaded, loaded_as, with_content, section_added, at_end, from_note, from_lines, from_rows}
 use Rattle.file.specs.Layout.{held_in, in_bytes, head_word, row_bytes, line_bytes, one_byte, each_written, section_written, sections_written, Each, Byte, RowLimits, LineLimits}
 use Rattle.file.proofs.Bytes.{each_take, each_drop}
+use Rattle.file.proofs.Called.{ok_same}
 use Rattle.file.proofs.Words.{count_below}
 use Rattle.file.proofs.Turns.{passes_note, passes_lines, passes_rows, takes_note, takes_lines, takes_rows}
 use Rattle.file.proofs.Limits.{went_on, with_rows, with_lines, RowsRead, LinesRead, rows_forth, rows_back, lines_forth, lines_back}
@@ -63,9 +63,6 @@ past_front k bs = drop_all k (take k bs) (rw length-take (omega arith))
 whole_body : (k : ℕ) (bs body : List ℕ) → take k bs ≡ body ++ drop k (take k bs) → take k bs ≡ body
 whole_body k bs body h = h ∙ (ap (λ (ys : List ℕ). body ++ ys) (past_front k bs) ∙ append-nil body)
 
-pub ok_same : {X E : Type 0} {a b : X} → ◌≡◌ {A = Result X E} (Ok a) (Ok b) → a ≡ b
-ok_same h = cc
-
 -- the file's end
 ended : (p : Piece) (x y : Loaded) → at_end p x ≡ Ok y → (length p.bytes ≡ 0) × (x ≡ y)
 unfolding at_end
@@ -77,10 +74,10 @@ ends p x h = rw h
 
 module _ (m : Meaning) (trust : ℕ) (p : Piece) (x : Loaded) where
   -- what a section of each code makes
-  rows_section : head_code p.bytes ≡ rows_code → section_added m trust (next_section p) x ≡ go_on (records m trust kind.Row (head_count p.bytes) (take (8 * head_count p.bytes) (drop 2 p.bytes)) (p.place + 2) x.content) (with_content x)
+  rows_section : head_code p.bytes ≡ rows_code → section_added m trust (next_section p) x ≡ go_on (records (row_record m) (head_count p.bytes) (take (8 * head_count p.bytes) (drop 2 p.bytes)) (p.place + 2) x.content) (with_content x)
   rows_section h = rw h
 
-  lines_section : head_code p.bytes ≡ lines_code → section_added m trust (next_section p) x ≡ go_on (records m trust kind.Line (head_count p.bytes) (take (8 * head_count p.bytes) (drop 2 p.bytes)) (p.place + 2) x.content) (with_content x)
+  lines_section : head_code p.bytes ≡ lines_code → section_added m trust (next_section p) x ≡ go_on (records (line_record m trust) (head_count p.bytes) (take (8 * head_count p.bytes) (drop 2 p.bytes)) (p.place + 2) x.content) (with_content x)
   lines_section h = rw h
 
   note_section : head_code p.bytes ≡ note_code → section_added m trust (next_section p) x ≡ cond (ltb (length (take (head_count p.bytes) (drop 2 p.bytes))) (head_count p.bytes)) (Err (fault_at CutShort (p.place + 2))) (Ok (loaded_as x.content (record { bytes = take (head_count p.bytes) (drop 2 p.bytes); place = p.place + 2 })))
@@ -184,7 +181,7 @@ module _ (m : Meaning) (trust : ℕ) where
       let n = head_count p.bytes in
       let body = take (8 * n) (drop 2 p.bytes) in
       let g = went_on (section_added m trust (next_section p) x) (from_note m trust (past p)) y h in
-      let k = went_on (records m trust kind.Line n body (p.place + 2) x.content) (with_content x) g.value (sym (lines_section m trust p x is) ∙ g.answered) in
+      let k = went_on (records (line_record m trust) n body (p.place + 2) x.content) (with_content x) g.value (sym (lines_section m trust p x is) ∙ g.answered) in
       let r = lines_back m trust n body (p.place + 2) x.content k.value (each_take (8 * n) (drop 2 p.bytes) (each_drop 2 p.bytes e)) few_lines k.answered in
       lines_then p x y g.value k.value e few_rows long is r k.then g.then
 
@@ -228,7 +225,7 @@ module _ (m : Meaning) (trust : ℕ) where
       let n = head_count p.bytes in
       let body = take (8 * n) (drop 2 p.bytes) in
       let g = went_on (section_added m trust (next_section p) x) (from_lines m trust (past p)) y h in
-      let k = went_on (records m trust kind.Row n body (p.place + 2) x.content) (with_content x) g.value (sym (rows_section m trust p x is) ∙ g.answered) in
+      let k = went_on (records (row_record m) n body (p.place + 2) x.content) (with_content x) g.value (sym (rows_section m trust p x is) ∙ g.answered) in
       let r = rows_back m trust n body (p.place + 2) x.content k.value (each_take (8 * n) (drop 2 p.bytes) (each_drop 2 p.bytes e)) few_rows k.answered in
       rows_then p x y g.value k.value e few_lines long is r k.then g.then
 

@@ -1,6 +1,8 @@
 // Why a load was declined.
 ghost use Rattle.std.specs.Prelude.{◌≡◌};
+ghost use Rattle.file.specs.declared.refusal.FileRefusal.TheVariants.{Board};
 ghost use Rattle.file.specs.Refusals.{file_number, layer_number, layer_of};
+ghost use Rattle.file.specs.Parts.{fault_at};
 
 use board::Refusal;
 
@@ -72,6 +74,24 @@ impl FileRefusal {
             FileRefusal::Board(_) => Layer::Board,
             _ => Layer::File,
         }
+    }
+
+    // The load declined with it, in the part at that place.
+    pub(crate) fn at(self, place: usize) -> LoadFault
+        ensures { result ≡ fault_at self place }
+    {
+        LoadFault {
+            refusal: self,
+            place,
+        }
+    }
+}
+
+impl From<Refusal> for FileRefusal {
+    ghost from_gives = { λ refusal r. r ≡ Board refusal };
+
+    fn from(refusal: Refusal) -> FileRefusal {
+        Self::Board(refusal)
     }
 }
 
