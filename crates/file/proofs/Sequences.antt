@@ -2,6 +2,7 @@
 -- board takes.
 use Rattle.std.proofs.Common.{◌≡◌, ℕ, zero, suc, ◌+◌, ◌*◌, ◌^◌, ◌<◌, ◌≤◌, Bool, true, false, cond, ltb, List, [], ◌∷◌, ◌++◌, length, drop, Ok, Err, Result, sym, refl, ap, ◌∙◌, subst, arith, drop-drop}
 use Rattle.std.proofs.lemmas.Bool.{ltb-false, le-ltb}
+use Rattle.std.specs.List.{AllByRecursion}
 use Rattle.board.specs.Content.{Content}
 use Rattle.file.specs.declared.refusal.FileRefusal.{FileRefusal}
 use Rattle.file.specs.declared.refusal.FileRefusal.TheVariants.{CutShort}
@@ -9,7 +10,7 @@ use Rattle.file.specs.declared.refusal.LoadFault.{LoadFault}
 use Rattle.file.specs.Fields.{word8}
 use Rattle.file.specs.Parts.{fault_at}
 use Rattle.file.specs.Records.{go_on, at_place, records}
-use Rattle.file.specs.Layout.{in_bytes, each_written, Each, Byte}
+use Rattle.file.specs.Layout.{in_bytes, each_written, Byte}
 use Rattle.file.proofs.Bytes.{word8_bytes, bytes_word8, word8_fits, each_drop}
 use Rattle.file.proofs.Called.{err_not_ok}
 use Rattle.file.proofs.Steps.{records_none, records_more}
@@ -53,7 +54,7 @@ laid_more bs w tail n first is others =
     let rest : drop (8 * n) (drop 8 bs) ≡ drop (8 * suc n) bs = drop-drop (8 * n) 8 bs ∙ ap (λ (j : ℕ). drop j bs) k in
     first ∙ (ap (λ (v : ℕ). in_bytes 8 v ++ drop 8 bs) (sym is) ∙ ap (λ (ys : List ℕ). in_bytes 8 w ++ ys) (others ∙ ap (λ (ys : List ℕ). tail ++ ys) rest))
 
-then_others : {A : Type 0} {word_of : A → ℕ} {Fits : A → Type 0} {Taken : Content → A → Type 0} {put : Content → A → Content} (c next d : Content) (n : ℕ) (bs : List ℕ) → Each Byte bs → 8 ≤ length bs → WasAdded word_of Fits Taken put c next (word8 bs) → WereAdded word_of Fits Taken put next d n (drop 8 bs) → WereAdded word_of Fits Taken put c d (suc n) bs
+then_others : {A : Type 0} {word_of : A → ℕ} {Fits : A → Type 0} {Taken : Content → A → Type 0} {put : Content → A → Content} (c next d : Content) (n : ℕ) (bs : List ℕ) → AllByRecursion Byte bs → 8 ≤ length bs → WasAdded word_of Fits Taken put c next (word8 bs) → WereAdded word_of Fits Taken put next d n (drop 8 bs) → WereAdded word_of Fits Taken put c d (suc n) bs
 then_others {word_of = word_of} {Fits = Fits} {Taken = Taken} {put = put} c next d n bs e long first others =
     record {
       entries = first.entry ∷ others.entries;
@@ -72,7 +73,7 @@ module _ {A : Type 0} (add : Content → ℕ → Result Content FileRefusal) (wo
       records_more add (in_bytes 8 (word_of x) ++ tail) place c (suc (length xs)) (length xs) (put c x) (omega arith) (rw long (sym (ap (add c) w ∙ forth c x fits taken)))
       ∙ records_run xs rest (place + 8) (put c x) d r
 
-  pub records_were : (n : ℕ) (bs : List ℕ) (place : ℕ) (c d : Content) → Each Byte bs → records add n bs place c ≡ Ok d → WereAdded word_of Fits Taken put c d n bs
+  pub records_were : (n : ℕ) (bs : List ℕ) (place : ℕ) (c d : Content) → AllByRecursion Byte bs → records add n bs place c ≡ Ok d → WereAdded word_of Fits Taken put c d n bs
   unfolding records
   records_were zero bs place c d e h = record { entries = []; count = refl; laid = refl; run = cc }
   records_were (suc n) bs place c d e h =

@@ -104,40 +104,13 @@ module _ (m : Meaning) (keep : CallsKeep m) where
   edited_sound c (call.RepriceLine i k) h = keep.line_repriced c i k h
   edited_sound c call.ClearLines h = keep.cleared c h
   edited_sound c (call.Load bytes) h = load_sound bytes.now
-  edited_sound c call.Settle h = h
-  edited_sound c call.Cost h = h
-  edited_sound c call.Path h = h
-  edited_sound c (call.Between s q) h = h
-  edited_sound c (call.Check moves) h = h
-  edited_sound c call.Reopen h = h
+  edited_sound c x h = h
 
   pub stepped_sound : (s : State) (x : Call) → Sound m (content s) → Sound m (content (stepped m s x))
-  stepped_sound (draft c) (call.Size a b) h = edited_sound c (call.Size a b) h
-  stepped_sound (draft c) (call.AddRow r) h = edited_sound c (call.AddRow r) h
-  stepped_sound (draft c) (call.AddLine l) h = edited_sound c (call.AddLine l) h
-  stepped_sound (draft c) (call.RepriceRow i k) h = edited_sound c (call.RepriceRow i k) h
-  stepped_sound (draft c) (call.RepriceLine i k) h = edited_sound c (call.RepriceLine i k) h
-  stepped_sound (draft c) call.ClearLines h = edited_sound c call.ClearLines h
-  stepped_sound (draft c) (call.Load bytes) h = edited_sound c (call.Load bytes) h
   stepped_sound (draft c) call.Settle h = h
-  stepped_sound (draft c) call.Cost h = h
-  stepped_sound (draft c) call.Path h = h
-  stepped_sound (draft c) (call.Between s q) h = h
-  stepped_sound (draft c) (call.Check moves) h = h
-  stepped_sound (draft c) call.Reopen h = h
-  stepped_sound (settled c) (call.Size a b) h = h
-  stepped_sound (settled c) (call.AddRow r) h = h
-  stepped_sound (settled c) (call.AddLine l) h = h
-  stepped_sound (settled c) (call.RepriceRow i k) h = h
-  stepped_sound (settled c) (call.RepriceLine i k) h = h
-  stepped_sound (settled c) call.ClearLines h = h
-  stepped_sound (settled c) (call.Load bytes) h = h
-  stepped_sound (settled c) call.Settle h = h
-  stepped_sound (settled c) call.Cost h = h
-  stepped_sound (settled c) call.Path h = h
-  stepped_sound (settled c) (call.Between s q) h = h
-  stepped_sound (settled c) (call.Check moves) h = h
+  stepped_sound (draft c) x h = edited_sound c x h
   stepped_sound (settled c) call.Reopen h = h
+  stepped_sound (settled c) x h = h
 
   pub state_sound : (s : State) (xs : List Call) → Sound m (content s) → Sound m (content (state_from m s xs))
   state_sound s [] h = h

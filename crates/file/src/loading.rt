@@ -75,7 +75,6 @@ fn read_file<'a, K: Kind>(bytes: &'a [u8]) -> Result<(Draft<K>, Note<'a>), LoadF
 }
 
 // A new board, sized as the header says, and the trust that the header gives.
-#[tactic(auto, unfolding(crate::specs::Load::sized))]
 fn open<K: Kind>(left: &mut Unread<'_>) -> Result<(Draft<K>, u8), FileRefusal>
     ensures answer { opened_as result ≡ opened K.meaning left.old.bytes.now new }
     ensures rest { OnOk result ((left.new.bytes.now ≡ drop 4 left.old.bytes.now) × (left.new.place ≡ left.old.place + 4)) }
