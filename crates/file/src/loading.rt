@@ -83,6 +83,6 @@ fn open<K: Kind>(left: &mut Unread<'_>) -> Result<(Draft<K>, u8), FileRefusal>
     let head = left.read().ok_or(FileRefusal::CutShort)?;
     let header = read_header::<K>(u32::from_be_bytes(head))?;
     let mut draft = Draft::new();
-    draft.size(header.modes as u32, header.moments as u32)?;
+    draft.size(u32::from(header.modes), u32::from(header.moments))?;
     Ok((draft, header.trust))
 }

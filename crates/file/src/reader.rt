@@ -8,14 +8,15 @@ use crate::section::{Section, SectionKind};
 use crate::unread::Unread;
 
 // What is left of the file, and the kind of the last section that came.
-#[derive(Clone, Copy)]
+#[derive(Drop)]
 pub(crate) struct Reader<'a> {
     pub left: Unread<'a>,
     pub last: Option<SectionKind>,
 }
 
 impl<'a> Reader<'a> {
-    // The next section, or none at the file's end.
+    // The next section, or none at the file's end. Not an `Iterator`'s `next`: a refused section leaves the reader where it
+    // is, and so it would never end.
     pub fn next(&mut self) -> Result<Option<Section<'a>>, LoadFault>
         ensures answer { found_next result ≡ next_answer (reading self.old) }
         ensures after { reading self.new ≡ next_after (reading self.old) }

@@ -7,7 +7,7 @@ ghost use Rattle.file.specs.Parts.{fault_at};
 use board::Refusal;
 
 // Which layer declined.
-#[derive(Clone, Copy)]
+#[derive(Clone, Copy, Debug, PartialEq, Eq)]
 pub enum Layer {
     // 1: the bytes end too early
     Bytes = 1,
@@ -18,7 +18,7 @@ pub enum Layer {
 }
 
 // The refusals of a load. In each part of the file the file's own come before the board's.
-#[derive(Clone, Copy)]
+#[derive(Clone, Copy, Debug, PartialEq, Eq)]
 pub enum FileRefusal {
     // 20: the part being read is cut short
     CutShort,
@@ -35,7 +35,7 @@ pub enum FileRefusal {
 }
 
 // A declined load: why, and the place of the part that was being read.
-#[derive(Clone, Copy)]
+#[derive(Clone, Copy, Debug, PartialEq, Eq)]
 pub struct LoadFault {
     pub refusal: FileRefusal,
     pub place: usize,

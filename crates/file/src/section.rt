@@ -27,8 +27,8 @@ impl SectionKind {
         ensures { result ≡ section_size (section_code self) count }
     {
         match self {
-            SectionKind::Rows | SectionKind::Lines => 8 * count as usize,
-            SectionKind::Note => count as usize,
+            SectionKind::Rows | SectionKind::Lines => 8 * usize::from(count),
+            SectionKind::Note => usize::from(count),
         }
     }
 }

@@ -45,7 +45,7 @@ impl<'a, K: Kind> Filling<'a, K> {
         ensures same { (self.new.trust ≡ self.old.trust) × (self.new.draft ≡ self.old.draft) }
     {
         let Section { part, count, .. } = section;
-        if part.bytes.len() < count as usize {
+        if part.bytes.len() < usize::from(count) {
             return Err(FileRefusal::CutShort.at(part.place));
         }
         self.note = part.into();
