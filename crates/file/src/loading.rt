@@ -70,7 +70,7 @@ fn read_file<'a, K: Kind>(bytes: &'a [u8]) -> Result<(Draft<K>, Note<'a>), LoadF
         trust,
         note: none,
     };
-    filling.add_sections(&mut Reader { left, last: None })?;
+    filling.add_sections(Reader { left, last: None })?;
     Ok((filling.draft, filling.note))
 }
 

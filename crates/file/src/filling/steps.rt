@@ -17,8 +17,8 @@ use costs::Kind;
 
 impl<'a, K: Kind> Filling<'a, K> {
     // Adds all sections that the reader has left.
-    pub fn add_sections(&mut self, reader: &mut Reader<'a>) -> Result<(), LoadFault>
-        ensures after { told result (so_far self.new) ≡ from_last K.meaning self.old.trust reader.old.last (reading reader.old).left (so_far self.old) }
+    pub fn add_sections(&mut self, mut reader: Reader<'a>) -> Result<(), LoadFault>
+        ensures after { told result (so_far self.new) ≡ from_last K.meaning self.old.trust reader.entry.last (reading reader.entry).left (so_far self.old) }
         ensures kept { Sound K.meaning (draft_content self.old.draft) → Sound K.meaning (draft_content self.new.draft) }
     {
         while let Some(section) = reader.next()? {
@@ -27,6 +27,7 @@ impl<'a, K: Kind> Filling<'a, K> {
         Ok(())
     }
 
+    // Adds a section: rows and lines go to the board.
     fn add_section(&mut self, section: Section<'a>) -> Result<(), LoadFault>
         ensures after { told result (so_far self.new) ≡ section_added K.meaning self.old.trust (found_section section.entry) (so_far self.old) }
         ensures same { self.new.trust ≡ self.old.trust }
