@@ -1,6 +1,7 @@
 // Rows and lines.
-ghost use Rattle.std.specs.Prelude.{◌≡◌};
-ghost use Rattle.board.specs.Rows.{kind_number, formed};
+ghost use Rattle.std.specs.Prelude.{◌≡◌, Some, IfOk};
+ghost use Rattle.std.specs.Option.{ok_or};
+ghost use Rattle.board.specs.Rows.{kind_number, kind_of_number, formed};
 
 // What a row does. The numbers are those of the file format.
 #[derive(Clone, Copy, Default)]
@@ -42,9 +43,28 @@ pub struct Line {
 impl RowKind {
     // Its number.
     pub fn number(self) -> u8
-        ensures { result ≡ kind_number self }
+        ensures value { result ≡ kind_number self }
+        ensures again { kind_of_number result ≡ Some self }
     {
         self as u8
+    }
+}
+
+impl TryFrom<u8> for RowKind {
+    // the number back, where no kind has it
+    type Error = u8;
+
+    ghost try_from_gives = { λ n r. (r ≡ ok_or (kind_of_number n) n) × IfOk r (λ kind. kind_number kind ≡ n) };
+
+    // The kind that has the number.
+    fn try_from(number: u8) -> Result<RowKind, u8> {
+        match number {
+            0 => Ok(RowKind::Plain),
+            1 => Ok(RowKind::Open),
+            2 => Ok(RowKind::Close),
+            3 => Ok(RowKind::End),
+            _ => Err(number),
+        }
     }
 }
 

@@ -3,6 +3,7 @@ use Rattle.std.proofs.Common.{◌≡◌, ℕ, ◌+◌, ◌-◌, ◌*◌, ◌<◌
 use Rattle.std.proofs.lemmas.List.{length-drop}
 use Rattle.std.proofs.lemmas.Bool.{ltb-false, le-ltb}
 use Rattle.std.proofs.lemmas.Bool.Decides.{nat_tests}
+use Rattle.std.specs.List.{AllByRecursion}
 use Rattle.costs.specs.Meaning.{Meaning}
 use Rattle.board.specs.declared.row.Row.{Row}
 use Rattle.board.specs.declared.row.Line.{Line}
@@ -10,17 +11,18 @@ use Rattle.board.specs.Content.{Content, new}
 use Rattle.board.specs.Calls.{size_fault, size_after, with_size}
 use Rattle.file.specs.declared.fields.Header.{Header}
 use Rattle.file.specs.declared.refusal.FileRefusal.{FileRefusal}
+use Rattle.file.specs.declared.refusal.FileRefusal.TheVariants.{CutShort}
 use Rattle.file.specs.declared.refusal.LoadFault.{LoadFault}
 use Rattle.file.specs.Fields.{word4, header_read}
 use Rattle.file.specs.Parts.{Piece, fault_at}
 use Rattle.file.specs.Records.{go_on, at_place}
-use Rattle.file.specs.Load.{Loaded, loaded_as, from_rows, sized, no_note, after_header, loaded, note_answer, content_left, load_answer, load_after}
-use Rattle.file.specs.Layout.{Description, in_bytes, header_word, sections_written, written, Each, Byte, content_of, note_at_end, Described, LoadsExactly}
+use Rattle.file.specs.Load.{Opened, opened, Loaded, loaded_as, from_rows, sized, no_note, after_header, loaded, note_answer, content_left, load_answer, load_after}
+use Rattle.file.specs.Layout.{Description, in_bytes, header_word, sections_written, written, Byte, content_of, note_at_end, Described, LoadsExactly}
 use Rattle.file.proofs.Bytes.{word4_bytes, bytes_word4, word4_fits, each_byte, each_drop}
-use Rattle.file.proofs.Called.{err_not_ok}
+use Rattle.file.proofs.Called.{err_not_ok, ok_same}
 use Rattle.file.proofs.Words.{header_word_fits, header_word_read, HeaderWas, header_read_word}
 use Rattle.file.proofs.Limits.{went_on, was_called}
-use Rattle.file.proofs.Tails.{put_rows, put_lines, put_note, Tail, rows_tail, rows_accepted, ok_same}
+use Rattle.file.proofs.Tails.{put_rows, put_lines, put_note, Tail, rows_tail, rows_accepted}
 
 -- the size that a header gives a new board
 size_was : (a b : ℕ) → size_fault new a b ≡ None → (0 < a * b) × (a * b ≤ 64)
@@ -50,9 +52,9 @@ placed : {X : Type 0} (o : Result X FileRefusal) (place : ℕ) (x : X) → at_pl
 placed (Ok y) place x h = ap Ok (ok_same h)
 placed (Err e) place x h = absurd (err_not_ok x (fault_at e place) (sym h))
 
-uncut : (cut : Bool) (f : LoadFault) (o : Result Loaded LoadFault) (y : Loaded) → cond cut (Err f) o ≡ Ok y → (cut ≡ false) × (o ≡ Ok y)
-uncut true f o y h = absurd (err_not_ok y f (sym h))
-uncut false f o y h = (refl, h)
+uncut : {X E : Type 0} (cut : Bool) (e : E) (o : Result X E) (x : X) → cond cut (Err e) o ≡ Ok x → (cut ≡ false) × (o ≡ Ok x)
+uncut true e o x h = absurd (err_not_ok x e (sym h))
+uncut false e o x h = (refl, h)
 
 -- the content and the note of the sections are those of the description
 contents : (m : Meaning) (d : Description) (rows : Option (List Row)) (lines : Option (List Line)) → d.rows ≡ rows → d.lines ≡ lines → put_lines m d.trust d.lines (put_rows d.rows (with_size new d.modes d.moments)) ≡ content_of m d
@@ -67,7 +69,7 @@ notes (Some ns) k size bs h e = λ i. record { bytes = ns; place = h i - length 
 
 module _ (m : Meaning) where
   -- from what is accepted to the description
-  describe : (bs : List ℕ) (y : Loaded) (h : Header) (rows : Option (List Row)) (lines : Option (List Line)) (note : Option (List ℕ)) → 4 ≤ length bs → Each Byte bs → HeaderWas m (word4 bs) h → SizedNew h (with_size new h.modes h.moments) → Tail m h.trust rows lines note (after_header bs) (loaded_as (with_size new h.modes h.moments) (no_note bs)) y → Described m bs y.content y.note
+  describe : (bs : List ℕ) (y : Loaded) (h : Header) (rows : Option (List Row)) (lines : Option (List Line)) (note : Option (List ℕ)) → 4 ≤ length bs → AllByRecursion Byte bs → HeaderWas m (word4 bs) h → SizedNew h (with_size new h.modes h.moments) → Tail m h.trust rows lines note (after_header bs) (loaded_as (with_size new h.modes h.moments) (no_note bs)) y → Described m bs y.content y.note
   describe bs y h rows lines note long e w s t =
       let d : Description = record { letter = m.letter; modes = h.modes; moments = h.moments; trust = h.trust; rows = rows; lines = lines; note = note } in
       let laid : written d ≡ bs = ap (λ (v : ℕ). in_bytes 4 v ++ sections_written rows lines note) w.is ∙ (ap (λ (ys : List ℕ). in_bytes 4 (word4 bs) ++ ys) (sym t.laid) ∙ sym (bytes_word4 bs long e)) in
@@ -95,16 +97,19 @@ module _ (m : Meaning) where
         notes = t.noted ∙ notes note (4 + length (drop 4 bs)) (length (written d)) bs (ends ∙ ap length (sym laid)) (ap length (sym laid));
       }
 
-  accepted_as : (bs : List ℕ) (y : Loaded) → Each Byte bs → loaded m bs ≡ Ok y → Described m bs y.content y.note
+  accepted_as : (bs : List ℕ) (y : Loaded) → AllByRecursion Byte bs → loaded m bs ≡ Ok y → Described m bs y.content y.note
   accepted_as bs y e h =
-      let u = uncut (ltb (length bs) 4) _ _ y h in
-      let a = went_on (at_place (header_read m (word4 bs)) 0) (λ (k : Header). go_on (at_place (sized k new) 0) (λ (d : Content). from_rows m k.trust (after_header bs) (loaded_as d (no_note bs)))) y u.1 in
-      let b = went_on (at_place (sized a.value new) 0) (λ (d : Content). from_rows m a.value.trust (after_header bs) (loaded_as d (no_note bs))) y a.then in
-      let w = header_read_word m (word4 bs) a.value (word4_fits bs e) (placed (header_read m (word4 bs)) 0 a.value a.answered) in
-      let s = sized_was a.value b.value (placed (sized a.value new) 0 b.value b.answered) in
-      let on = subst (λ (d : Content). from_rows m a.value.trust (after_header bs) (loaded_as d (no_note bs)) ≡ Ok y) (sym s.is) b.then in
-      let t = rows_tail m a.value.trust (after_header bs) (loaded_as (with_size new a.value.modes a.value.moments) (no_note bs)) y (each_drop 4 bs e) (omega arith) (omega arith) on in
-      describe bs y a.value t.0 t.1 t.2 (ltb-false (length bs) 4 u.0) e w (record { some_place = s.some_place; few_places = s.few_places; is = refl }) t.3
+      let on = λ (o : Opened). from_rows m o.trust (after_header bs) (loaded_as o.content (no_note bs)) in
+      let a = went_on (at_place (opened m bs new) 0) on y h in
+      let u = uncut (ltb (length bs) 4) CutShort _ a.value (placed (opened m bs new) 0 a.value a.answered) in
+      let b = went_on (header_read m (word4 bs)) (λ (k : Header). go_on (sized k new) (λ (d : Content). Ok (record { content = d; trust = k.trust }))) a.value u.1 in
+      let d = went_on (sized b.value new) (λ (d : Content). Ok (record { content = d; trust = b.value.trust })) a.value b.then in
+      let w = header_read_word m (word4 bs) b.value (word4_fits bs e) b.answered in
+      let s = sized_was b.value d.value d.answered in
+      let same : record { content = d.value; trust = b.value.trust } ≡ a.value = ok_same d.then in
+      let rows = subst (λ (c : Content). on (record { content = c; trust = b.value.trust }) ≡ Ok y) (sym s.is) (subst (λ (o : Opened). on o ≡ Ok y) (sym same) a.then) in
+      let t = rows_tail m b.value.trust (after_header bs) (loaded_as (with_size new b.value.modes b.value.moments) (no_note bs)) y (each_drop 4 bs e) (omega arith) (omega arith) rows in
+      describe bs y b.value t.0 t.1 t.2 (ltb-false (length bs) 4 u.0) e w (record { some_place = s.some_place; few_places = s.few_places; is = refl }) t.3
 
   -- from the description to what is accepted
   past_header : (bs : List ℕ) (h : Header) (d : Content) → 4 ≤ length bs → header_read m (word4 bs) ≡ Ok h → sized h new ≡ Ok d → loaded m bs ≡ from_rows m h.trust (after_header bs) (loaded_as d (no_note bs))

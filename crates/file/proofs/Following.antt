@@ -20,73 +20,32 @@ use Rattle.file.proofs.Sounding.{state_sound}
 use Rattle.file.proofs.Promising.{state_split, main_promise}
 
 -- what `step` ensures
-pub record Step {K : Type 0} {k : Ghosts K} (m : Meaning) (b : Board K k) (x : Call) (buffer : List ℕ) (after : Board K k) (told : Told) (left : List ℕ) : Type 0 where
-  pub state : state_of after ≡ stepped m (state_of b) x
-  pub answer : told ≡ step_answer m (state_of b) (records_of b) x buffer
-  pub written : left ≡ step_buffer m (state_of b) (records_of b) x buffer
-  pub history : (calls : List Call) → Holds m calls b → Follows m calls x buffer after told left
+abbrev pub Step : {K : Type 0} {k : Ghosts K} → Meaning → Board K k → Call → List ℕ → Board K k → Told → List ℕ → Type 0
+Step m b x buffer next told left =
+    record {
+      state : state_of next ≡ stepped m (state_of b) x;
+      answer : told ≡ step_answer m (state_of b) (records_of b) x buffer;
+      after : left ≡ step_buffer m (state_of b) (records_of b) x buffer;
+      history : (calls : List Call) → Holds m calls b → Follows m calls x buffer next told left;
+    }
 
 -- a draft that is not settled keeps being one
 draft_rest : (m : Meaning) (c : Content) (x : Call) → (x ≡ call.Settle → ⊥) → on_draft m c x ≡ draft (edited m c x)
-draft_rest m c (call.Size a b) other = refl
-draft_rest m c (call.AddRow r) other = refl
-draft_rest m c (call.AddLine l) other = refl
-draft_rest m c (call.RepriceRow i k) other = refl
-draft_rest m c (call.RepriceLine i k) other = refl
-draft_rest m c call.ClearLines other = refl
-draft_rest m c (call.Load bytes) other = refl
 draft_rest m c call.Settle other = absurd (other refl)
-draft_rest m c call.Cost other = refl
-draft_rest m c call.Path other = refl
-draft_rest m c (call.Between s q) other = refl
-draft_rest m c (call.Check moves) other = refl
-draft_rest m c call.Reopen other = refl
+draft_rest m c x other = refl
 
 draft_told : (m : Meaning) (c : Content) (x : Call) → (x ≡ call.Settle → ⊥) → step_answer_draft m c x ≡ draft_answer m c x
-draft_told m c (call.Size a b) other = refl
-draft_told m c (call.AddRow r) other = refl
-draft_told m c (call.AddLine l) other = refl
-draft_told m c (call.RepriceRow i k) other = refl
-draft_told m c (call.RepriceLine i k) other = refl
-draft_told m c call.ClearLines other = refl
-draft_told m c (call.Load bytes) other = refl
 draft_told m c call.Settle other = absurd (other refl)
-draft_told m c call.Cost other = refl
-draft_told m c call.Path other = refl
-draft_told m c (call.Between s q) other = refl
-draft_told m c (call.Check moves) other = refl
-draft_told m c call.Reopen other = refl
+draft_told m c x other = refl
 
 -- a settled board that is not reopened stays as it is
 settled_rest : (c : Content) (x : Call) → (x ≡ call.Reopen → ⊥) → on_settled c x ≡ settled c
-settled_rest c (call.Size a b) other = refl
-settled_rest c (call.AddRow r) other = refl
-settled_rest c (call.AddLine l) other = refl
-settled_rest c (call.RepriceRow i k) other = refl
-settled_rest c (call.RepriceLine i k) other = refl
-settled_rest c call.ClearLines other = refl
-settled_rest c (call.Load bytes) other = refl
-settled_rest c call.Settle other = refl
-settled_rest c call.Cost other = refl
-settled_rest c call.Path other = refl
-settled_rest c (call.Between s q) other = refl
-settled_rest c (call.Check moves) other = refl
 settled_rest c call.Reopen other = absurd (other refl)
+settled_rest c x other = refl
 
 settled_told : (m : Meaning) (c : Content) (log : List Record) (x : Call) (buffer : List ℕ) → (x ≡ call.Reopen → ⊥) → step_answer_settled m c log x buffer ≡ settled_answer m c log x buffer
-settled_told m c log (call.Size a b) buffer other = refl
-settled_told m c log (call.AddRow r) buffer other = refl
-settled_told m c log (call.AddLine l) buffer other = refl
-settled_told m c log (call.RepriceRow i k) buffer other = refl
-settled_told m c log (call.RepriceLine i k) buffer other = refl
-settled_told m c log call.ClearLines buffer other = refl
-settled_told m c log (call.Load bytes) buffer other = refl
-settled_told m c log call.Settle buffer other = refl
-settled_told m c log call.Cost buffer other = refl
-settled_told m c log call.Path buffer other = refl
-settled_told m c log (call.Between s q) buffer other = refl
-settled_told m c log (call.Check moves) buffer other = refl
 settled_told m c log call.Reopen buffer other = absurd (other refl)
+settled_told m c log x buffer other = refl
 
 module _ {K : Type 0} {k : Ghosts K} {m : Meaning} (laws : Lawful m) where
   -- the records are the defined ones where they were before
@@ -97,7 +56,7 @@ module _ {K : Type 0} {k : Ghosts K} {m : Meaning} (laws : Lawful m) where
   follows b x buffer after told left state answer written kept = record {
     state = state;
     answer = answer;
-    written = written;
+    after = written;
     history = λ calls h.
         let sound : Sound m (content (state_of b)) = subst (λ (s : State). Sound m (content s)) (sym h.state) (state_sound m (h.promises.kept m) (draft new) calls (h.promises.kept m).begun) in
         let reached : state_of after ≡ state_after m (calls ++ (x ∷ [])) = state ∙ ap (λ (s : State). stepped m s x) h.state ∙ sym (state_split m (draft new) calls (x ∷ [])) in

@@ -2,10 +2,11 @@
 use Rattle.std.proofs.Common.{◌≡◌, ℕ, ◌+◌, ◌<◌, ◌≤◌, ◌⊎◌, List, ◌++◌, length, take, drop, sym, ap, ◌∙◌, subst, inl, inr, arith, take-append-drop, take_at, drop_at}
 use Rattle.std.proofs.lemmas.List.{length-drop}
 use Rattle.std.proofs.lemmas.Bool.{cases_eq, cases_lt}
+use Rattle.std.specs.List.{AllByRecursion}
 use Rattle.file.specs.Fields.{field, word2, head_code, head_count}
 use Rattle.file.specs.Parts.{Piece}
 use Rattle.file.specs.Sections.{past}
-use Rattle.file.specs.Layout.{in_bytes, head_word, Each, Byte}
+use Rattle.file.specs.Layout.{in_bytes, head_word, Byte}
 use Rattle.file.proofs.Bytes.{word2_bytes, bytes_word2, word2_fits}
 use Rattle.file.proofs.Words.{head_word_fits, head_word_code, head_word_count, head_read_word}
 
@@ -46,7 +47,7 @@ head_at bs code n size body rest small few long laid =
     )
 
 -- and such a layout read back
-pub laid_section : (bs : List ℕ) (code n size : ℕ) (body : List ℕ) → 2 ≤ length bs → Each Byte bs → head_code bs ≡ code → n ≡ head_count bs → take size (drop 2 bs) ≡ body → bs ≡ in_bytes 2 (head_word code n) ++ (body ++ drop size (drop 2 bs))
+pub laid_section : (bs : List ℕ) (code n size : ℕ) (body : List ℕ) → 2 ≤ length bs → AllByRecursion Byte bs → head_code bs ≡ code → n ≡ head_count bs → take size (drop 2 bs) ≡ body → bs ≡ in_bytes 2 (head_word code n) ++ (body ++ drop size (drop 2 bs))
 laid_section bs code n size body long e is count whole =
     let w = word2 bs in
     let made : head_word code n ≡ w = ap (λ (k : ℕ). head_word code k) count ∙ (ap (λ (k : ℕ). head_word k (head_count bs)) (sym is) ∙ head_read_word w (word2_fits bs e)) in

@@ -1,6 +1,7 @@
 -- The rows and lines that the board takes one after the other are those within the limits.
 use Rattle.std.proofs.Common.{◌≡◌, ℕ, ◌+◌, ◌*◌, ◌^◌, ◌<◌, ◌≤◌, true, List, [], ◌∷◌, ◌++◌, map, length, drop, Some, None, Ok, Err, Option, Result, sym, refl, ◌∙◌, subst, append_assoc, append-nil, arith, length-append}
 use Rattle.std.proofs.lemmas.Bool.Decides.{nat_tests}
+use Rattle.std.specs.List.{AllByRecursion}
 use Rattle.costs.specs.Meaning.{Meaning, Cost}
 use Rattle.board.specs.declared.refusal.Refusal.{Refusal}
 use Rattle.board.specs.declared.row.Row.{Row}
@@ -9,10 +10,9 @@ use Rattle.board.specs.Rows.{formed}
 use Rattle.board.specs.Content.{Content}
 use Rattle.board.specs.Calls.{row_fault, row_after, with_row, line_fault, line_after, with_line}
 use Rattle.file.specs.declared.refusal.FileRefusal.TheVariants.{Board}
-use Rattle.file.specs.declared.records.RecordKind.TheVariants as kind
 use Rattle.file.specs.Fields.{row_read, line_read}
-use Rattle.file.specs.Records.{go_on, called, row_added, line_added, trusted_line, record_added, records}
-use Rattle.file.specs.Layout.{row_word, line_word, row_bytes, line_bytes, each_written, Each, Byte, RowLimits, LineLimits}
+use Rattle.file.specs.Records.{go_on, called, row_added, line_added, trusted_line, row_record, line_record, records}
+use Rattle.file.specs.Layout.{row_word, line_word, row_bytes, line_bytes, each_written, Byte, RowLimits, LineLimits}
 use Rattle.file.proofs.Called.{err_not_ok}
 use Rattle.file.proofs.Words.{RowFits, row_word_fits, row_word_read, row_read_word, LineFits, line_word_fits, line_word_read, line_read_word}
 use Rattle.file.proofs.Sequences.{Run, WasAdded, records_run, records_were}
@@ -80,11 +80,11 @@ abbrev pub with_lines : Meaning → ℕ → Content → List Line → Content
 with_lines m trust c ls = record { modes = c.modes; moments = c.moments; rows = c.rows; lines = c.lines ++ map (trusted_line m trust) ls }
 
 module _ (m : Meaning) (trust : ℕ) where
-  row_forth : (c : Content) (r : Row) → RowFits r → TakesRow m c r → record_added m trust kind.Row c (row_word r) ≡ Ok (row_after m c r)
+  row_forth : (c : Content) (r : Row) → RowFits r → TakesRow m c r → row_record m c (row_word r) ≡ Ok (row_after m c r)
   unfolding row_added
   row_forth c r fits taken = rw (row_word_read r fits, taken)
 
-  row_back : (c d : Content) (w : ℕ) → w < 2 ^ 64 → record_added m trust kind.Row c w ≡ Ok d → WasAdded row_word RowFits (TakesRow m) (row_after m) c d w
+  row_back : (c d : Content) (w : ℕ) → w < 2 ^ 64 → row_record m c w ≡ Ok d → WasAdded row_word RowFits (TakesRow m) (row_after m) c d w
   unfolding row_added
   row_back c d w b h =
       let g = went_on (row_read w) (row_added m c) d h in
@@ -92,11 +92,11 @@ module _ (m : Meaning) (trust : ℕ) where
       let was = row_read_word w g.value b g.answered in
       record { entry = g.value; fits = was.0; is = was.1; taken = k.0; after = k.1 }
 
-  line_forth : (c : Content) (l : Line) → LineFits l → TakesLine m trust c l → record_added m trust kind.Line c (line_word l) ≡ Ok (line_put m trust c l)
+  line_forth : (c : Content) (l : Line) → LineFits l → TakesLine m trust c l → line_record m trust c (line_word l) ≡ Ok (line_put m trust c l)
   unfolding line_added
   line_forth c l fits taken = rw (line_word_read l fits, taken)
 
-  line_back : (c d : Content) (w : ℕ) → w < 2 ^ 64 → record_added m trust kind.Line c w ≡ Ok d → WasAdded line_word LineFits (TakesLine m trust) (line_put m trust) c d w
+  line_back : (c d : Content) (w : ℕ) → w < 2 ^ 64 → line_record m trust c w ≡ Ok d → WasAdded line_word LineFits (TakesLine m trust) (line_put m trust) c d w
   unfolding line_added
   line_back c d w b h =
       let g = went_on (line_read w) (λ (l : Line). line_added m c (trusted_line m trust l)) d h in
@@ -125,7 +125,7 @@ module _ (m : Meaning) (trust : ℕ) where
   line_room c l = length-append c.lines (l ∷ [])
 
   -- the rows that the board takes one after the other are within the limits
-  pub rows_limited : (rs : List Row) (c d : Content) → length c.rows ≤ 128 → Run RowFits (TakesRow m) (row_after m) c rs d → (length c.rows + length rs ≤ 128) × Each (RowLimits m c.modes) rs × (d ≡ with_rows c rs)
+  pub rows_limited : (rs : List Row) (c d : Content) → length c.rows ≤ 128 → Run RowFits (TakesRow m) (row_after m) c rs d → (length c.rows + length rs ≤ 128) × AllByRecursion (RowLimits m c.modes) rs × (d ≡ with_rows c rs)
   rows_limited [] c d few r = (omega arith, tt, r ∙ rw (append-nil c.rows))
   rows_limited (x ∷ rs) c d few (fits, taken, r) =
       let t = row_taken m c x taken in
@@ -145,7 +145,7 @@ module _ (m : Meaning) (trust : ℕ) where
       (omega (arith, on.0), (x-keeps, on.1), on.2 ∙ more_rows c x rs)
 
   -- and rows within the limits are taken one after the other
-  pub limited_rows : (rs : List Row) (c : Content) → length c.rows + length rs ≤ 128 → Each (RowLimits m c.modes) rs → Run RowFits (TakesRow m) (row_after m) c rs (with_rows c rs)
+  pub limited_rows : (rs : List Row) (c : Content) → length c.rows + length rs ≤ 128 → AllByRecursion (RowLimits m c.modes) rs → Run RowFits (TakesRow m) (row_after m) c rs (with_rows c rs)
   limited_rows [] c few e = rw (append-nil c.rows)
   limited_rows (x ∷ rs) c few (k, e) =
       let room = row_room c x in
@@ -156,7 +156,7 @@ module _ (m : Meaning) (trust : ℕ) where
       (fits, taken, subst (λ (y : Content). Run RowFits (TakesRow m) (row_after m) y rs (with_rows c (x ∷ rs))) (sym (row_left c x taken)) at)
 
   -- the same of lines
-  pub lines_limited : (ls : List Line) (c d : Content) → length c.lines ≤ 128 → Run LineFits (TakesLine m trust) (line_put m trust) c ls d → (length c.lines + length ls ≤ 128) × Each (LineLimits m c.moments trust) ls × (d ≡ with_lines m trust c ls)
+  pub lines_limited : (ls : List Line) (c d : Content) → length c.lines ≤ 128 → Run LineFits (TakesLine m trust) (line_put m trust) c ls d → (length c.lines + length ls ≤ 128) × AllByRecursion (LineLimits m c.moments trust) ls × (d ≡ with_lines m trust c ls)
   lines_limited [] c d few r = (omega arith, tt, r ∙ rw (append-nil c.lines))
   lines_limited (x ∷ ls) c d few (fits, taken, r) =
       let t = line_taken m c (trusted_line m trust x) taken in
@@ -174,7 +174,7 @@ module _ (m : Meaning) (trust : ℕ) where
       } in
       (omega (arith, on.0), (x-keeps, on.1), on.2 ∙ more_lines c x ls)
 
-  pub limited_lines : (ls : List Line) (c : Content) → length c.lines + length ls ≤ 128 → Each (LineLimits m c.moments trust) ls → Run LineFits (TakesLine m trust) (line_put m trust) c ls (with_lines m trust c ls)
+  pub limited_lines : (ls : List Line) (c : Content) → length c.lines + length ls ≤ 128 → AllByRecursion (LineLimits m c.moments trust) ls → Run LineFits (TakesLine m trust) (line_put m trust) c ls (with_lines m trust c ls)
   limited_lines [] c few e = rw (append-nil c.lines)
   limited_lines (x ∷ ls) c few (k, e) =
       let room = line_room c (trusted_line m trust x) in
@@ -190,7 +190,7 @@ pub record RowsRead (m : Meaning) (c d : Content) (n : ℕ) (bs : List ℕ) : Ty
   pub count : length rows ≡ n
   pub laid : bs ≡ each_written row_bytes rows ++ drop (8 * n) bs
   pub few : length c.rows + length rows ≤ 128
-  pub keep : Each (RowLimits m c.modes) rows
+  pub keep : AllByRecursion (RowLimits m c.modes) rows
   pub after : d ≡ with_rows c rows
 
 pub record LinesRead (m : Meaning) (trust : ℕ) (c d : Content) (n : ℕ) (bs : List ℕ) : Type 0 where
@@ -198,24 +198,24 @@ pub record LinesRead (m : Meaning) (trust : ℕ) (c d : Content) (n : ℕ) (bs :
   pub count : length lines ≡ n
   pub laid : bs ≡ each_written line_bytes lines ++ drop (8 * n) bs
   pub few : length c.lines + length lines ≤ 128
-  pub keep : Each (LineLimits m c.moments trust) lines
+  pub keep : AllByRecursion (LineLimits m c.moments trust) lines
   pub after : d ≡ with_lines m trust c lines
 
 module _ (m : Meaning) (trust : ℕ) where
-  pub rows_forth : (rs : List Row) (rest : List ℕ) (place : ℕ) (c : Content) → length c.rows + length rs ≤ 128 → Each (RowLimits m c.modes) rs → records m trust kind.Row (length rs) (each_written row_bytes rs ++ rest) place c ≡ Ok (with_rows c rs)
-  rows_forth rs rest place c few e = records_run m trust kind.Row row_word RowFits (TakesRow m) (row_after m) row_word_fits (row_forth m trust) (row_back m trust) rs rest place c (with_rows c rs) (limited_rows m trust rs c few e)
+  pub rows_forth : (rs : List Row) (rest : List ℕ) (place : ℕ) (c : Content) → length c.rows + length rs ≤ 128 → AllByRecursion (RowLimits m c.modes) rs → records (row_record m) (length rs) (each_written row_bytes rs ++ rest) place c ≡ Ok (with_rows c rs)
+  rows_forth rs rest place c few e = records_run (row_record m) row_word RowFits (TakesRow m) (row_after m) row_word_fits (row_forth m trust) (row_back m trust) rs rest place c (with_rows c rs) (limited_rows m trust rs c few e)
 
-  pub rows_back : (n : ℕ) (bs : List ℕ) (place : ℕ) (c d : Content) → Each Byte bs → length c.rows ≤ 128 → records m trust kind.Row n bs place c ≡ Ok d → RowsRead m c d n bs
+  pub rows_back : (n : ℕ) (bs : List ℕ) (place : ℕ) (c d : Content) → AllByRecursion Byte bs → length c.rows ≤ 128 → records (row_record m) n bs place c ≡ Ok d → RowsRead m c d n bs
   rows_back n bs place c d e few h =
-      let w = records_were m trust kind.Row row_word RowFits (TakesRow m) (row_after m) row_word_fits (row_forth m trust) (row_back m trust) n bs place c d e h in
+      let w = records_were (row_record m) row_word RowFits (TakesRow m) (row_after m) row_word_fits (row_forth m trust) (row_back m trust) n bs place c d e h in
       let l = rows_limited m trust w.entries c d few w.run in
       record { rows = w.entries; count = w.count; laid = w.laid; few = l.0; keep = l.1; after = l.2 }
 
-  pub lines_forth : (ls : List Line) (rest : List ℕ) (place : ℕ) (c : Content) → length c.lines + length ls ≤ 128 → Each (LineLimits m c.moments trust) ls → records m trust kind.Line (length ls) (each_written line_bytes ls ++ rest) place c ≡ Ok (with_lines m trust c ls)
-  lines_forth ls rest place c few e = records_run m trust kind.Line line_word LineFits (TakesLine m trust) (line_put m trust) line_word_fits (line_forth m trust) (line_back m trust) ls rest place c (with_lines m trust c ls) (limited_lines m trust ls c few e)
+  pub lines_forth : (ls : List Line) (rest : List ℕ) (place : ℕ) (c : Content) → length c.lines + length ls ≤ 128 → AllByRecursion (LineLimits m c.moments trust) ls → records (line_record m trust) (length ls) (each_written line_bytes ls ++ rest) place c ≡ Ok (with_lines m trust c ls)
+  lines_forth ls rest place c few e = records_run (line_record m trust) line_word LineFits (TakesLine m trust) (line_put m trust) line_word_fits (line_forth m trust) (line_back m trust) ls rest place c (with_lines m trust c ls) (limited_lines m trust ls c few e)
 
-  pub lines_back : (n : ℕ) (bs : List ℕ) (place : ℕ) (c d : Content) → Each Byte bs → length c.lines ≤ 128 → records m trust kind.Line n bs place c ≡ Ok d → LinesRead m trust c d n bs
+  pub lines_back : (n : ℕ) (bs : List ℕ) (place : ℕ) (c d : Content) → AllByRecursion Byte bs → length c.lines ≤ 128 → records (line_record m trust) n bs place c ≡ Ok d → LinesRead m trust c d n bs
   lines_back n bs place c d e few h =
-      let w = records_were m trust kind.Line line_word LineFits (TakesLine m trust) (line_put m trust) line_word_fits (line_forth m trust) (line_back m trust) n bs place c d e h in
+      let w = records_were (line_record m trust) line_word LineFits (TakesLine m trust) (line_put m trust) line_word_fits (line_forth m trust) (line_back m trust) n bs place c d e h in
       let l = lines_limited m trust w.entries c d few w.run in
       record { lines = w.entries; count = w.count; laid = w.laid; few = l.0; keep = l.1; after = l.2 }

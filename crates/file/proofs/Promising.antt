@@ -1,5 +1,5 @@
 -- The main promise, from what the board promises.
-use Rattle.std.proofs.Common.{◌≡◌, ℕ, min, Bool, true, false, cond, ◌&&◌, leb, ◌↔◌, List, [], ◌∷◌, ◌++◌, map, length, drop, Some, None, Ok, Err, Option, Result, sym, refl, ap, ◌∙◌, subst, inl, inr, arith}
+use Rattle.std.proofs.Common.{◌≡◌, ℕ, min, Bool, true, false, cond, ◌&&◌, leb, ◌↔◌, List, [], ◌∷◌, ◌++◌, map, length, drop, Some, None, Ok, Err, Option, sym, refl, ap, ◌∙◌, subst, inl, inr, arith}
 use Rattle.std.proofs.lemmas.Bool.{leb-true, leb-false}
 use Rattle.costs.specs.Meaning.{Meaning, Lawful}
 use Rattle.board.specs.declared.refusal.Refusal.{Refusal}
@@ -16,9 +16,10 @@ use Rattle.board.specs.Promises.{BoardPromises, Cheapest, Computed, NoneBelow}
 use Rattle.file.specs.declared.call.Call.{Call}
 use Rattle.file.specs.declared.call.Call.TheVariants as call
 use Rattle.file.specs.States.{State, draft, settled, content, fault, on_draft, stepped, state_from, state_after}
-use Rattle.file.specs.Easing.{Question, cost, path, between, check, Eases, adds_row, adds_line, reprices_row, reprices_line, settles, reopens, asks, declined, AllEase, none, next}
+use Rattle.file.specs.Easing.{Question, cost, Eases, adds_row, adds_line, reprices_row, reprices_line, settles, reopens, asks, declined, AllEase, none, next}
 use Rattle.file.specs.Promise.{cost_told, cost_or_worst, answered_cost, Writes, written, AnsweredReading, AnswersCheapest, MainPromise}
 use Rattle.file.specs.Promise as promise
+use Rattle.file.proofs.Called.{err_not_ok, ok_same}
 use Rattle.file.proofs.Sounding.{stepped_sound, state_sound}
 
 -- a list of calls in two parts
@@ -28,12 +29,6 @@ state_split m s (x ∷ xs) ys = state_split m (stepped m s x) xs ys
 
 no_some : {A : Type 0} (x : A) → None ≡ Some x → ⊥
 no_some x e = let z : ◌≡◌ {A = ℕ} 0 1 = cc in omega arith
-
-err_ok : {A E : Type 0} (e : E) (x : A) → Err e ≡ Ok x → ⊥
-err_ok e x h = let z : ◌≡◌ {A = ℕ} 0 1 = cc in omega arith
-
-ok_same : {A : Type 0} (x y : A) → ◌≡◌ {A = Result A Refusal} (Ok x) (Ok y) → x ≡ y
-ok_same x y h = cc
 
 module _ {m : Meaning} (laws : Lawful m) (promises : BoardPromises) where
   -- what is known of a sound content's records
@@ -74,12 +69,12 @@ module _ {m : Meaning} (laws : Lawful m) (promises : BoardPromises) where
         }
 
     reading : (o : Option ReadingFound) → found m c (settled_log m c) ≡ o → (k n : ℕ) → told_of o ≡ Ok (k, n) → AnsweredReading m c k n
-    reading None e k n h = absurd (err_ok NoReading (k, n) h)
-    reading (Some f) e k n h = subst (λ (p : ℕ × ℕ). AnsweredReading m c p.0 p.1) (ok_same _ _ h) (reading_of f e)
+    reading None e k n h = absurd (err_not_ok (k, n) NoReading (sym h))
+    reading (Some f) e k n h = subst (λ (p : ℕ × ℕ). AnsweredReading m c p.0 p.1) (ok_same h) (reading_of f e)
 
     none_found : (o : Option ReadingFound) → found m c (settled_log m c) ≡ o → told_of o ≡ Err NoReading → found m c (settled_log m c) ≡ None
     none_found None e h = e
-    none_found (Some f) e h = absurd (err_ok NoReading _ (sym h))
+    none_found (Some f) e h = absurd (err_not_ok _ NoReading h)
 
     none_below : (cost_told m c ≡ Err NoReading) ↔ NoneBelow m c
     none_below = (
@@ -107,20 +102,11 @@ module _ {m : Meaning} (laws : Lawful m) (promises : BoardPromises) where
   declined_same c (call.AddLine l) e f = unless_same (line_fault m c l) _ c e f
   declined_same c (call.RepriceRow i k) e f = unless_same (reprice_fault m c.rows i k) _ c e f
   declined_same c (call.RepriceLine i k) e f = unless_same (reprice_fault m c.lines i k) _ c e f
-  declined_same c call.ClearLines e f = absurd (no_some e f)
-  declined_same c (call.Load bytes) e f = absurd (no_some e f)
-  declined_same c call.Settle e f = absurd (no_some e f)
-  declined_same c call.Cost e f = absurd (no_some e f)
-  declined_same c call.Path e f = absurd (no_some e f)
-  declined_same c (call.Between s q) e f = absurd (no_some e f)
-  declined_same c (call.Check moves) e f = absurd (no_some e f)
-  declined_same c call.Reopen e f = absurd (no_some e f)
+  declined_same c x e f = absurd (no_some e f)
 
   asked_same : (c : Content) {x : Call} → Question x → content (stepped m (settled c) x) ≡ c
   asked_same c cost = refl
-  asked_same c path = refl
-  asked_same c between = refl
-  asked_same c check = refl
+  asked_same c q = refl
 
   step_eased : {s : State} {x : Call} → Sound m (content s) → Eases m s x → Eased m (content s) (content (stepped m s x))
   step_eased h (adds_row {c} {r}) = unless_eased c (with_row c r) (row_fault m c r) h (ease.row_added c r h)

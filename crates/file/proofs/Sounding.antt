@@ -1,91 +1,95 @@
 -- Every call, a load among them, keeps a board's content sound.
 use Rattle.std.proofs.Common.{ℕ, zero, suc, ◌+◌, Bool, true, false, cond, eqb, ltb, List, [], ◌∷◌, length, drop, Some, None, Ok, Err, Option, Result}
+use Rattle.std.specs.Result.{IfOk}
 use Rattle.costs.specs.Meaning.{Meaning}
 use Rattle.board.specs.declared.refusal.Refusal.{Refusal}
 use Rattle.board.specs.Content.{Content, new, Sound}
 use Rattle.board.specs.Calls.{CallsKeep, size_fault, size_after, row_fault, row_after, line_fault, line_after}
 use Rattle.file.specs.declared.refusal.FileRefusal.{FileRefusal}
 use Rattle.file.specs.declared.refusal.LoadFault.{LoadFault}
-use Rattle.file.specs.declared.records.RecordKind.{RecordKind}
-use Rattle.file.specs.declared.records.RecordKind.TheVariants.{Row, Line}
 use Rattle.file.specs.declared.call.Call.{Call}
 use Rattle.file.specs.declared.call.Call.TheVariants as call
 use Rattle.file.specs.Fields.{word4, word8, header_read, row_read, line_read}
 use Rattle.file.specs.Parts.{Piece}
 use Rattle.file.specs.Sections.{rows_code, lines_code, note_code, Found, next_section, past}
-use Rattle.file.specs.Records.{go_on, at_place, called, row_added, line_added, trusted_line, record_added, records}
-use Rattle.file.specs.Load.{Loaded, loaded_as, with_content, section_added, comes, in_turn, at_end, from_note, from_lines, from_rows, sized, filled, loaded, content_left, load_after, after_header, no_note}
+use Rattle.file.specs.Records.{go_on, at_place, called, row_added, line_added, trusted_line, row_record, line_record, record_next, records}
+use Rattle.file.specs.Load.{Loaded, loaded_as, with_content, section_added, comes, in_turn, at_end, from_note, from_lines, from_rows, sized, opened, filled, loaded, content_left, load_after, after_header, no_note}
 use Rattle.file.specs.States.{State, draft, settled, content, edited, stepped, state_from}
 
--- what holds of an answer where it is no refusal
-abbrev All : {X E : Type 0} → (X → Type 0) → Result X E → Type 0
-All P (Ok x) = P x
-All P (Err e) = Unit {0}
-
 module _ {X E : Type 0} (P : X → Type 0) where
-  cond_all : (b : Bool) (x y : Result X E) → All P x → All P y → All P (cond b x y)
+  cond_all : (b : Bool) (x y : Result X E) → IfOk x P → IfOk y P → IfOk (cond b x y) P
   cond_all true x y h k = h
   cond_all false x y h k = k
 
-  go_on_all : {Y : Type 0} (Q : Y → Type 0) (r : Result Y E) (f : Y → Result X E) → All Q r → ((y : Y) → Q y → All P (f y)) → All P (go_on r f)
+  go_on_all : {Y : Type 0} (Q : Y → Type 0) (r : Result Y E) (f : Y → Result X E) → IfOk r Q → ((y : Y) → Q y → IfOk (f y) P) → IfOk (go_on r f) P
   go_on_all Q (Ok y) f h k = k y h
   go_on_all Q (Err e) f h k = tt
 
-any : {X E : Type 0} (r : Result X E) → All (λ _. Unit {0}) r
+any : {X E : Type 0} (r : Result X E) → IfOk r (λ _. Unit {0})
 any (Ok x) = tt
 any (Err e) = tt
 
-at_place_all : {X : Type 0} (P : X → Type 0) (r : Result X FileRefusal) (place : ℕ) → All P r → All P (at_place r place)
+at_place_all : {X : Type 0} (P : X → Type 0) (r : Result X FileRefusal) (place : ℕ) → IfOk r P → IfOk (at_place r place) P
 at_place_all P (Ok x) place h = h
 at_place_all P (Err e) place h = tt
 
-called_all : (P : Content → Type 0) (o : Option Refusal) (after : Content) → P after → All P (called o after)
+called_all : (P : Content → Type 0) (o : Option Refusal) (after : Content) → P after → IfOk (called o after) P
 called_all P None after h = h
 called_all P (Some e) after h = tt
 
 module _ (m : Meaning) (keep : CallsKeep m) where
-  record_sound : (t : ℕ) (kind : RecordKind) (c : Content) (w : ℕ) → Sound m c → All (Sound m) (record_added m t kind c w)
-  unfolding row_added line_added
-  record_sound t Row c w h = go_on_all (Sound m) (λ _. Unit {0}) (row_read w) (row_added m c) (any _) (λ r _. called_all (Sound m) (row_fault m c r) (row_after m c r) (keep.row_added c r h))
-  record_sound t Line c w h = go_on_all (Sound m) (λ _. Unit {0}) (line_read w) (λ l. line_added m c (trusted_line m t l)) (any _) (λ l _. called_all (Sound m) (line_fault m c (trusted_line m t l)) (line_after m c (trusted_line m t l)) (keep.line_added c (trusted_line m t l) h))
+  -- a way to put a record on the board keeps its content sound
+  abbrev Keeps : (Content → ℕ → Result Content FileRefusal) → Type 0
+  Keeps add = (c : Content) (w : ℕ) → Sound m c → IfOk (add c w) (Sound m)
 
-  records_sound : (t : ℕ) (kind : RecordKind) (n : ℕ) (bs : List ℕ) (place : ℕ) (c : Content) → Sound m c → All (Sound m) (records m t kind n bs place c)
+  row_sound : Keeps (row_record m)
+  unfolding row_added
+  row_sound c w h = go_on_all (Sound m) (λ _. Unit {0}) (row_read w) (row_added m c) (any _) (λ r _. called_all (Sound m) (row_fault m c r) (row_after m c r) (keep.row_added c r h))
+
+  line_sound : (t : ℕ) → Keeps (line_record m t)
+  unfolding line_added
+  line_sound t c w h = go_on_all (Sound m) (λ _. Unit {0}) (line_read w) (λ l. line_added m c (trusted_line m t l)) (any _) (λ l _. called_all (Sound m) (line_fault m c (trusted_line m t l)) (line_after m c (trusted_line m t l)) (keep.line_added c (trusted_line m t l) h))
+
+  records_sound : (add : Content → ℕ → Result Content FileRefusal) → Keeps add → (n : ℕ) (bs : List ℕ) (place : ℕ) (c : Content) → Sound m c → IfOk (records add n bs place c) (Sound m)
   unfolding records
-  records_sound t kind zero bs place c h = h
-  records_sound t kind (suc n) bs place c h =
-      cond_all (Sound m) (ltb (length bs) 8) _ _ tt
-      (go_on_all (Sound m) (Sound m) (at_place (record_added m t kind c (word8 bs)) place) _ (at_place_all (Sound m) (record_added m t kind c (word8 bs)) place (record_sound t kind c (word8 bs) h)) (λ d k. records_sound t kind n (drop 8 bs) (place + 8) d k))
+  records_sound add k zero bs place c h = h
+  records_sound add k (suc n) bs place c h =
+      go_on_all (Sound m) (Sound m) (at_place (record_next add bs c) place) _
+      (at_place_all (Sound m) (record_next add bs c) place (cond_all (Sound m) (ltb (length bs) 8) _ _ tt (k c (word8 bs) h)))
+      (λ d s. records_sound add k n (drop 8 bs) (place + 8) d s)
 
   abbrev Fine : Loaded → Type 0
   Fine x = Sound m x.content
 
-  section_sound : (t : ℕ) (f : Found) (x : Loaded) → Fine x → All Fine (section_added m t f x)
+  section_sound : (t : ℕ) (f : Found) (x : Loaded) → Fine x → IfOk (section_added m t f x) Fine
   section_sound t f x h =
-      cond_all Fine (eqb f.code rows_code) _ _ (go_on_all Fine (Sound m) (records m t Row f.count f.part.bytes f.part.place x.content) (with_content x) (records_sound t Row f.count f.part.bytes f.part.place x.content h) (λ d k. k))
-      (cond_all Fine (eqb f.code lines_code) _ _ (go_on_all Fine (Sound m) (records m t Line f.count f.part.bytes f.part.place x.content) (with_content x) (records_sound t Line f.count f.part.bytes f.part.place x.content h) (λ d k. k))
+      cond_all Fine (eqb f.code rows_code) _ _ (go_on_all Fine (Sound m) (records (row_record m) f.count f.part.bytes f.part.place x.content) (with_content x) (records_sound (row_record m) row_sound f.count f.part.bytes f.part.place x.content h) (λ d k. k))
+      (cond_all Fine (eqb f.code lines_code) _ _ (go_on_all Fine (Sound m) (records (line_record m t) f.count f.part.bytes f.part.place x.content) (with_content x) (records_sound (line_record m t) (line_sound t) f.count f.part.bytes f.part.place x.content h) (λ d k. k))
       (cond_all Fine (ltb (length f.part.bytes) f.count) _ _ tt h))
 
-  turn_sound : (t code : ℕ) (next : Piece → Loaded → Result Loaded LoadFault) → ((p : Piece) (x : Loaded) → Fine x → All Fine (next p x)) → (p : Piece) (x : Loaded) → Fine x → All Fine (in_turn m t code next p x)
+  turn_sound : (t code : ℕ) (next : Piece → Loaded → Result Loaded LoadFault) → ((p : Piece) (x : Loaded) → Fine x → IfOk (next p x) Fine) → (p : Piece) (x : Loaded) → Fine x → IfOk (in_turn m t code next p x) Fine
   turn_sound t code next k p x h =
       cond_all Fine (comes code p) _ _ (go_on_all Fine Fine (section_added m t (next_section p) x) (next (past p)) (section_sound t (next_section p) x h) (λ y f. k (past p) y f)) (k p x h)
 
-  end_sound : (p : Piece) (x : Loaded) → Fine x → All Fine (at_end p x)
+  end_sound : (p : Piece) (x : Loaded) → Fine x → IfOk (at_end p x) Fine
   unfolding at_end
   end_sound p x h = cond_all Fine (eqb (length p.bytes) 0) _ _ h (cond_all Fine (ltb (length p.bytes) 2) _ _ tt tt)
 
-  rows_sound : (t : ℕ) (p : Piece) (x : Loaded) → Fine x → All Fine (from_rows m t p x)
+  rows_sound : (t : ℕ) (p : Piece) (x : Loaded) → Fine x → IfOk (from_rows m t p x) Fine
   unfolding from_rows from_lines from_note
   rows_sound t = turn_sound t rows_code (from_lines m t) (turn_sound t lines_code (from_note m t) (turn_sound t note_code at_end end_sound))
 
-  filled_sound : (bs : List ℕ) (c : Content) → Sound m c → All Fine (filled m bs c)
+  filled_sound : (bs : List ℕ) (c : Content) → Sound m c → IfOk (filled m bs c) Fine
   unfolding sized
   filled_sound bs c h =
-      cond_all Fine (ltb (length bs) 4) _ _ tt
-      (go_on_all Fine (λ _. Unit {0}) (at_place (header_read m (word4 bs)) 0) _ (any _)
-      (λ d _. go_on_all Fine (Sound m) (at_place (sized d c) 0) _ (at_place_all (Sound m) (sized d c) 0 (called_all (Sound m) (size_fault c d.modes d.moments) (size_after c d.modes d.moments) (keep.sized c d.modes d.moments h)))
-      (λ e k. rows_sound d.trust (after_header bs) (loaded_as e (no_note bs)) k)))
+      go_on_all Fine (λ o. Sound m o.content) (at_place (opened m bs c) 0) _
+      (at_place_all (λ o. Sound m o.content) (opened m bs c) 0
+      (cond_all (λ o. Sound m o.content) (ltb (length bs) 4) _ _ tt
+      (go_on_all (λ o. Sound m o.content) (λ _. Unit {0}) (header_read m (word4 bs)) _ (any _)
+      (λ d _. go_on_all (λ o. Sound m o.content) (Sound m) (sized d c) _ (called_all (Sound m) (size_fault c d.modes d.moments) (size_after c d.modes d.moments) (keep.sized c d.modes d.moments h)) (λ e k. k)))))
+      (λ o k. rows_sound o.trust (after_header bs) (loaded_as o.content (no_note bs)) k)
 
-  left_sound : (r : Result Loaded LoadFault) → All Fine r → Sound m (content_left r)
+  left_sound : (r : Result Loaded LoadFault) → IfOk r Fine → Sound m (content_left r)
   left_sound (Ok x) h = h
   left_sound (Err e) h = keep.begun
 
@@ -100,40 +104,13 @@ module _ (m : Meaning) (keep : CallsKeep m) where
   edited_sound c (call.RepriceLine i k) h = keep.line_repriced c i k h
   edited_sound c call.ClearLines h = keep.cleared c h
   edited_sound c (call.Load bytes) h = load_sound bytes.now
-  edited_sound c call.Settle h = h
-  edited_sound c call.Cost h = h
-  edited_sound c call.Path h = h
-  edited_sound c (call.Between s q) h = h
-  edited_sound c (call.Check moves) h = h
-  edited_sound c call.Reopen h = h
+  edited_sound c x h = h
 
   pub stepped_sound : (s : State) (x : Call) → Sound m (content s) → Sound m (content (stepped m s x))
-  stepped_sound (draft c) (call.Size a b) h = edited_sound c (call.Size a b) h
-  stepped_sound (draft c) (call.AddRow r) h = edited_sound c (call.AddRow r) h
-  stepped_sound (draft c) (call.AddLine l) h = edited_sound c (call.AddLine l) h
-  stepped_sound (draft c) (call.RepriceRow i k) h = edited_sound c (call.RepriceRow i k) h
-  stepped_sound (draft c) (call.RepriceLine i k) h = edited_sound c (call.RepriceLine i k) h
-  stepped_sound (draft c) call.ClearLines h = edited_sound c call.ClearLines h
-  stepped_sound (draft c) (call.Load bytes) h = edited_sound c (call.Load bytes) h
   stepped_sound (draft c) call.Settle h = h
-  stepped_sound (draft c) call.Cost h = h
-  stepped_sound (draft c) call.Path h = h
-  stepped_sound (draft c) (call.Between s q) h = h
-  stepped_sound (draft c) (call.Check moves) h = h
-  stepped_sound (draft c) call.Reopen h = h
-  stepped_sound (settled c) (call.Size a b) h = h
-  stepped_sound (settled c) (call.AddRow r) h = h
-  stepped_sound (settled c) (call.AddLine l) h = h
-  stepped_sound (settled c) (call.RepriceRow i k) h = h
-  stepped_sound (settled c) (call.RepriceLine i k) h = h
-  stepped_sound (settled c) call.ClearLines h = h
-  stepped_sound (settled c) (call.Load bytes) h = h
-  stepped_sound (settled c) call.Settle h = h
-  stepped_sound (settled c) call.Cost h = h
-  stepped_sound (settled c) call.Path h = h
-  stepped_sound (settled c) (call.Between s q) h = h
-  stepped_sound (settled c) (call.Check moves) h = h
+  stepped_sound (draft c) x h = edited_sound c x h
   stepped_sound (settled c) call.Reopen h = h
+  stepped_sound (settled c) x h = h
 
   pub state_sound : (s : State) (xs : List Call) → Sound m (content s) → Sound m (content (state_from m s xs))
   state_sound s [] h = h

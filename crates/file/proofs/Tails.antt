@@ -3,20 +3,21 @@ use Rattle.std.proofs.Common.{◌≡◌, ℕ, ◌+◌, ◌-◌, ◌*◌, ◌<◌
 use Rattle.std.proofs.lemmas.List.{length-take, drop_all, nil_from_length, length-map}
 use Rattle.std.proofs.lemmas.Bool.{le-ltb}
 use Rattle.std.proofs.lemmas.Bool.Decides.{nat_tests}
+use Rattle.std.specs.List.{AllByRecursion}
 use Rattle.costs.specs.Meaning.{Meaning}
 use Rattle.board.specs.declared.row.Row.{Row}
 use Rattle.board.specs.declared.row.Line.{Line}
 use Rattle.board.specs.Content.{Content}
 use Rattle.file.specs.declared.refusal.FileRefusal.TheVariants.{CutShort}
 use Rattle.file.specs.declared.refusal.LoadFault.{LoadFault}
-use Rattle.file.specs.declared.records.RecordKind.TheVariants as kind
 use Rattle.file.specs.Fields.{word2, head_code, head_count}
 use Rattle.file.specs.Parts.{Piece, fault_at}
 use Rattle.file.specs.Sections.{rows_code, lines_code, note_code, next_section, past}
-use Rattle.file.specs.Records.{go_on, trusted_line, records}
+use Rattle.file.specs.Records.{go_on, trusted_line, row_record, line_record, records}
 use Rattle.file.specs.Load.{Loaded, loaded_as, with_content, section_added, at_end, from_note, from_lines, from_rows}
-use Rattle.file.specs.Layout.{held_in, in_bytes, head_word, row_bytes, line_bytes, one_byte, each_written, section_written, sections_written, Each, Byte, RowLimits, LineLimits}
+use Rattle.file.specs.Layout.{held_in, in_bytes, head_word, row_bytes, line_bytes, one_byte, each_written, section_written, sections_written, Byte, RowLimits, LineLimits}
 use Rattle.file.proofs.Bytes.{each_take, each_drop}
+use Rattle.file.proofs.Called.{ok_same}
 use Rattle.file.proofs.Words.{count_below}
 use Rattle.file.proofs.Turns.{passes_note, passes_lines, passes_rows, takes_note, takes_lines, takes_rows}
 use Rattle.file.proofs.Limits.{went_on, with_rows, with_lines, RowsRead, LinesRead, rows_forth, rows_back, lines_forth, lines_back}
@@ -39,11 +40,11 @@ put_note (Some bs) size n = record { bytes = bs; place = size - length bs }
 pub record Tail (m : Meaning) (trust : ℕ) (rows : Option (List Row)) (lines : Option (List Line)) (note : Option (List ℕ)) (p : Piece) (x y : Loaded) : Type 0 where
   pub laid : p.bytes ≡ sections_written rows lines note
   pub few_rows : length x.content.rows + length (held_in rows) ≤ 128
-  pub rows_keep : Each (RowLimits m x.content.modes) (held_in rows)
+  pub rows_keep : AllByRecursion (RowLimits m x.content.modes) (held_in rows)
   pub few_lines : length x.content.lines + length (held_in lines) ≤ 128
-  pub lines_keep : Each (LineLimits m x.content.moments trust) (held_in lines)
+  pub lines_keep : AllByRecursion (LineLimits m x.content.moments trust) (held_in lines)
   pub note_fits : length (held_in note) < 4096
-  pub note_bytes : Each Byte (held_in note)
+  pub note_bytes : AllByRecursion Byte (held_in note)
   pub content : y.content ≡ put_lines m trust lines (put_rows rows x.content)
   pub noted : y.note ≡ put_note note (p.place + length p.bytes) x.note
 
@@ -63,9 +64,6 @@ past_front k bs = drop_all k (take k bs) (rw length-take (omega arith))
 whole_body : (k : ℕ) (bs body : List ℕ) → take k bs ≡ body ++ drop k (take k bs) → take k bs ≡ body
 whole_body k bs body h = h ∙ (ap (λ (ys : List ℕ). body ++ ys) (past_front k bs) ∙ append-nil body)
 
-pub ok_same : {X E : Type 0} {a b : X} → ◌≡◌ {A = Result X E} (Ok a) (Ok b) → a ≡ b
-ok_same h = cc
-
 -- the file's end
 ended : (p : Piece) (x y : Loaded) → at_end p x ≡ Ok y → (length p.bytes ≡ 0) × (x ≡ y)
 unfolding at_end
@@ -77,10 +75,10 @@ ends p x h = rw h
 
 module _ (m : Meaning) (trust : ℕ) (p : Piece) (x : Loaded) where
   -- what a section of each code makes
-  rows_section : head_code p.bytes ≡ rows_code → section_added m trust (next_section p) x ≡ go_on (records m trust kind.Row (head_count p.bytes) (take (8 * head_count p.bytes) (drop 2 p.bytes)) (p.place + 2) x.content) (with_content x)
+  rows_section : head_code p.bytes ≡ rows_code → section_added m trust (next_section p) x ≡ go_on (records (row_record m) (head_count p.bytes) (take (8 * head_count p.bytes) (drop 2 p.bytes)) (p.place + 2) x.content) (with_content x)
   rows_section h = rw h
 
-  lines_section : head_code p.bytes ≡ lines_code → section_added m trust (next_section p) x ≡ go_on (records m trust kind.Line (head_count p.bytes) (take (8 * head_count p.bytes) (drop 2 p.bytes)) (p.place + 2) x.content) (with_content x)
+  lines_section : head_code p.bytes ≡ lines_code → section_added m trust (next_section p) x ≡ go_on (records (line_record m trust) (head_count p.bytes) (take (8 * head_count p.bytes) (drop 2 p.bytes)) (p.place + 2) x.content) (with_content x)
   lines_section h = rw h
 
   note_section : head_code p.bytes ≡ note_code → section_added m trust (next_section p) x ≡ cond (ltb (length (take (head_count p.bytes) (drop 2 p.bytes))) (head_count p.bytes)) (Err (fault_at CutShort (p.place + 2))) (Ok (loaded_as x.content (record { bytes = take (head_count p.bytes) (drop 2 p.bytes); place = p.place + 2 })))
@@ -116,7 +114,7 @@ module _ (m : Meaning) (trust : ℕ) where
       }
 
   -- a note is left
-  note_made : (p : Piece) (x y : Loaded) (front : List ℕ) → length x.content.rows ≤ 128 → length x.content.lines ≤ 128 → p.bytes ≡ in_bytes 2 (head_word note_code (length front)) ++ (front ++ []) → length front < 4096 → Each Byte front → loaded_as x.content (record { bytes = front; place = p.place + 2 }) ≡ y → Tail m trust None None (Some front) p x y
+  note_made : (p : Piece) (x y : Loaded) (front : List ℕ) → length x.content.rows ≤ 128 → length x.content.lines ≤ 128 → p.bytes ≡ in_bytes 2 (head_word note_code (length front)) ++ (front ++ []) → length front < 4096 → AllByRecursion Byte front → loaded_as x.content (record { bytes = front; place = p.place + 2 }) ≡ y → Tail m trust None None (Some front) p x y
   note_made p x y front few_rows few_lines laid fits e is =
       let all : length p.bytes ≡ 2 + length front = omega (arith, ap length laid, ap length (append-nil front)) in
       let place : p.place + 2 ≡ (p.place + length p.bytes) - length front = omega arith in
@@ -132,7 +130,7 @@ module _ (m : Meaning) (trust : ℕ) where
         noted = ap (λ (z : Loaded). z.note) (sym is) ∙ (λ i. record { bytes = front; place = place i });
       }
 
-  note_left : (p : Piece) (x y : Loaded) → Each Byte p.bytes → length x.content.rows ≤ 128 → length x.content.lines ≤ 128 → 2 ≤ length p.bytes → head_code p.bytes ≡ note_code → go_on (section_added m trust (next_section p) x) (at_end (past p)) ≡ Ok y → Tail m trust None None (Some (take (head_count p.bytes) (drop 2 p.bytes))) p x y
+  note_left : (p : Piece) (x y : Loaded) → AllByRecursion Byte p.bytes → length x.content.rows ≤ 128 → length x.content.lines ≤ 128 → 2 ≤ length p.bytes → head_code p.bytes ≡ note_code → go_on (section_added m trust (next_section p) x) (at_end (past p)) ≡ Ok y → Tail m trust None None (Some (take (head_count p.bytes) (drop 2 p.bytes))) p x y
   note_left p x y e few_rows few_lines long is h =
       let n = head_count p.bytes in
       let front = take n (drop 2 p.bytes) in
@@ -144,7 +142,7 @@ module _ (m : Meaning) (trust : ℕ) where
       let laid = laid_section p.bytes note_code (length front) n front long e is whole refl in
       note_made p x y front few_rows few_lines (laid ∙ ap (λ (ys : List ℕ). in_bytes 2 (head_word note_code (length front)) ++ (front ++ ys)) rest) (omega (arith, count_below (word2 p.bytes), whole)) (each_take n (drop 2 p.bytes) (each_drop 2 p.bytes e)) (w.1 ∙ last.1)
 
-  pub note_tail : (p : Piece) (x y : Loaded) → Each Byte p.bytes → length x.content.rows ≤ 128 → length x.content.lines ≤ 128 → from_note m trust p x ≡ Ok y → (note : Option (List ℕ)) × Tail m trust None None note p x y
+  pub note_tail : (p : Piece) (x y : Loaded) → AllByRecursion Byte p.bytes → length x.content.rows ≤ 128 → length x.content.lines ≤ 128 → from_note m trust p x ≡ Ok y → (note : Option (List ℕ)) × Tail m trust None None note p x y
   note_tail p x y e few_rows few_lines h =
       elim (next_or_not note_code p.bytes) [
         | inl next ↦ (_, note_left p x y e few_rows few_lines next.0 next.1 (sym (takes_note m trust p x next.0 next.1) ∙ h))
@@ -152,7 +150,7 @@ module _ (m : Meaning) (trust : ℕ) where
       ]
 
   -- lines are left, and what follows them
-  lines_made : (p : Piece) (x y : Loaded) (ls : List Line) (note : Option (List ℕ)) → length x.content.rows ≤ 128 → length x.content.lines + length ls ≤ 128 → Each (LineLimits m x.content.moments trust) ls → 2 ≤ length p.bytes → p.bytes ≡ in_bytes 2 (head_word lines_code (length ls)) ++ (each_written line_bytes ls ++ (past p).bytes) → Tail m trust None None note (past p) (loaded_as (with_lines m trust x.content ls) x.note) y → Tail m trust None (Some ls) note p x y
+  lines_made : (p : Piece) (x y : Loaded) (ls : List Line) (note : Option (List ℕ)) → length x.content.rows ≤ 128 → length x.content.lines + length ls ≤ 128 → AllByRecursion (LineLimits m x.content.moments trust) ls → 2 ≤ length p.bytes → p.bytes ≡ in_bytes 2 (head_word lines_code (length ls)) ++ (each_written line_bytes ls ++ (past p).bytes) → Tail m trust None None note (past p) (loaded_as (with_lines m trust x.content ls) x.note) y → Tail m trust None (Some ls) note p x y
   lines_made p x y ls note few_rows few_lines keep long laid t =
       record {
         laid = laid ∙ ap (λ (ys : List ℕ). in_bytes 2 (head_word lines_code (length ls)) ++ (each_written line_bytes ls ++ ys)) t.laid;
@@ -166,7 +164,7 @@ module _ (m : Meaning) (trust : ℕ) where
         noted = t.noted ∙ ap (λ (k : ℕ). put_note note k x.note) (past_ends p long);
       }
 
-  lines_then : (p : Piece) (x y v : Loaded) (d : Content) → Each Byte p.bytes → length x.content.rows ≤ 128 → 2 ≤ length p.bytes → head_code p.bytes ≡ lines_code → LinesRead m trust x.content d (head_count p.bytes) (take (8 * head_count p.bytes) (drop 2 p.bytes)) → with_content x d ≡ Ok v → from_note m trust (past p) v ≡ Ok y → (lines : Option (List Line)) × (note : Option (List ℕ)) × Tail m trust None lines note p x y
+  lines_then : (p : Piece) (x y v : Loaded) (d : Content) → AllByRecursion Byte p.bytes → length x.content.rows ≤ 128 → 2 ≤ length p.bytes → head_code p.bytes ≡ lines_code → LinesRead m trust x.content d (head_count p.bytes) (take (8 * head_count p.bytes) (drop 2 p.bytes)) → with_content x d ≡ Ok v → from_note m trust (past p) v ≡ Ok y → (lines : Option (List Line)) × (note : Option (List ℕ)) × Tail m trust None lines note p x y
   lines_then p x y v d e few_rows long is r made h =
       let ls = r.lines in
       let n = head_count p.bytes in
@@ -179,16 +177,16 @@ module _ (m : Meaning) (trust : ℕ) where
       let rest = ap (λ (ys : List ℕ). in_bytes 2 (head_word lines_code (length ls)) ++ (each_written line_bytes ls ++ ys)) (sym (past_records m trust p x lines_code is refl)) in
       (Some ls, t.0, lines_made p x y ls t.0 few_rows r.few r.keep long (laid ∙ rest) t.1)
 
-  lines_left : (p : Piece) (x y : Loaded) → Each Byte p.bytes → length x.content.rows ≤ 128 → length x.content.lines ≤ 128 → 2 ≤ length p.bytes → head_code p.bytes ≡ lines_code → go_on (section_added m trust (next_section p) x) (from_note m trust (past p)) ≡ Ok y → (lines : Option (List Line)) × (note : Option (List ℕ)) × Tail m trust None lines note p x y
+  lines_left : (p : Piece) (x y : Loaded) → AllByRecursion Byte p.bytes → length x.content.rows ≤ 128 → length x.content.lines ≤ 128 → 2 ≤ length p.bytes → head_code p.bytes ≡ lines_code → go_on (section_added m trust (next_section p) x) (from_note m trust (past p)) ≡ Ok y → (lines : Option (List Line)) × (note : Option (List ℕ)) × Tail m trust None lines note p x y
   lines_left p x y e few_rows few_lines long is h =
       let n = head_count p.bytes in
       let body = take (8 * n) (drop 2 p.bytes) in
       let g = went_on (section_added m trust (next_section p) x) (from_note m trust (past p)) y h in
-      let k = went_on (records m trust kind.Line n body (p.place + 2) x.content) (with_content x) g.value (sym (lines_section m trust p x is) ∙ g.answered) in
+      let k = went_on (records (line_record m trust) n body (p.place + 2) x.content) (with_content x) g.value (sym (lines_section m trust p x is) ∙ g.answered) in
       let r = lines_back m trust n body (p.place + 2) x.content k.value (each_take (8 * n) (drop 2 p.bytes) (each_drop 2 p.bytes e)) few_lines k.answered in
       lines_then p x y g.value k.value e few_rows long is r k.then g.then
 
-  pub lines_tail : (p : Piece) (x y : Loaded) → Each Byte p.bytes → length x.content.rows ≤ 128 → length x.content.lines ≤ 128 → from_lines m trust p x ≡ Ok y → (lines : Option (List Line)) × (note : Option (List ℕ)) × Tail m trust None lines note p x y
+  pub lines_tail : (p : Piece) (x y : Loaded) → AllByRecursion Byte p.bytes → length x.content.rows ≤ 128 → length x.content.lines ≤ 128 → from_lines m trust p x ≡ Ok y → (lines : Option (List Line)) × (note : Option (List ℕ)) × Tail m trust None lines note p x y
   lines_tail p x y e few_rows few_lines h =
       elim (next_or_not lines_code p.bytes) [
         | inl next ↦ lines_left p x y e few_rows few_lines next.0 next.1 (sym (takes_lines m trust p x next.0 next.1) ∙ h)
@@ -196,7 +194,7 @@ module _ (m : Meaning) (trust : ℕ) where
       ]
 
   -- rows are left, and what follows them
-  rows_made : (p : Piece) (x y : Loaded) (rs : List Row) (lines : Option (List Line)) (note : Option (List ℕ)) → length x.content.rows + length rs ≤ 128 → Each (RowLimits m x.content.modes) rs → 2 ≤ length p.bytes → p.bytes ≡ in_bytes 2 (head_word rows_code (length rs)) ++ (each_written row_bytes rs ++ (past p).bytes) → Tail m trust None lines note (past p) (loaded_as (with_rows x.content rs) x.note) y → Tail m trust (Some rs) lines note p x y
+  rows_made : (p : Piece) (x y : Loaded) (rs : List Row) (lines : Option (List Line)) (note : Option (List ℕ)) → length x.content.rows + length rs ≤ 128 → AllByRecursion (RowLimits m x.content.modes) rs → 2 ≤ length p.bytes → p.bytes ≡ in_bytes 2 (head_word rows_code (length rs)) ++ (each_written row_bytes rs ++ (past p).bytes) → Tail m trust None lines note (past p) (loaded_as (with_rows x.content rs) x.note) y → Tail m trust (Some rs) lines note p x y
   rows_made p x y rs lines note few_rows keep long laid t =
       record {
         laid = laid ∙ ap (λ (ys : List ℕ). in_bytes 2 (head_word rows_code (length rs)) ++ (each_written row_bytes rs ++ ys)) t.laid;
@@ -210,7 +208,7 @@ module _ (m : Meaning) (trust : ℕ) where
         noted = t.noted ∙ ap (λ (k : ℕ). put_note note k x.note) (past_ends p long);
       }
 
-  rows_then : (p : Piece) (x y v : Loaded) (d : Content) → Each Byte p.bytes → length x.content.lines ≤ 128 → 2 ≤ length p.bytes → head_code p.bytes ≡ rows_code → RowsRead m x.content d (head_count p.bytes) (take (8 * head_count p.bytes) (drop 2 p.bytes)) → with_content x d ≡ Ok v → from_lines m trust (past p) v ≡ Ok y → (rows : Option (List Row)) × (lines : Option (List Line)) × (note : Option (List ℕ)) × Tail m trust rows lines note p x y
+  rows_then : (p : Piece) (x y v : Loaded) (d : Content) → AllByRecursion Byte p.bytes → length x.content.lines ≤ 128 → 2 ≤ length p.bytes → head_code p.bytes ≡ rows_code → RowsRead m x.content d (head_count p.bytes) (take (8 * head_count p.bytes) (drop 2 p.bytes)) → with_content x d ≡ Ok v → from_lines m trust (past p) v ≡ Ok y → (rows : Option (List Row)) × (lines : Option (List Line)) × (note : Option (List ℕ)) × Tail m trust rows lines note p x y
   rows_then p x y v d e few_lines long is r made h =
       let rs = r.rows in
       let n = head_count p.bytes in
@@ -223,16 +221,16 @@ module _ (m : Meaning) (trust : ℕ) where
       let rest = ap (λ (ys : List ℕ). in_bytes 2 (head_word rows_code (length rs)) ++ (each_written row_bytes rs ++ ys)) (sym (past_records m trust p x rows_code is refl)) in
       (Some rs, t.0, t.1, rows_made p x y rs t.0 t.1 r.few r.keep long (laid ∙ rest) t.2)
 
-  rows_left : (p : Piece) (x y : Loaded) → Each Byte p.bytes → length x.content.rows ≤ 128 → length x.content.lines ≤ 128 → 2 ≤ length p.bytes → head_code p.bytes ≡ rows_code → go_on (section_added m trust (next_section p) x) (from_lines m trust (past p)) ≡ Ok y → (rows : Option (List Row)) × (lines : Option (List Line)) × (note : Option (List ℕ)) × Tail m trust rows lines note p x y
+  rows_left : (p : Piece) (x y : Loaded) → AllByRecursion Byte p.bytes → length x.content.rows ≤ 128 → length x.content.lines ≤ 128 → 2 ≤ length p.bytes → head_code p.bytes ≡ rows_code → go_on (section_added m trust (next_section p) x) (from_lines m trust (past p)) ≡ Ok y → (rows : Option (List Row)) × (lines : Option (List Line)) × (note : Option (List ℕ)) × Tail m trust rows lines note p x y
   rows_left p x y e few_rows few_lines long is h =
       let n = head_count p.bytes in
       let body = take (8 * n) (drop 2 p.bytes) in
       let g = went_on (section_added m trust (next_section p) x) (from_lines m trust (past p)) y h in
-      let k = went_on (records m trust kind.Row n body (p.place + 2) x.content) (with_content x) g.value (sym (rows_section m trust p x is) ∙ g.answered) in
+      let k = went_on (records (row_record m) n body (p.place + 2) x.content) (with_content x) g.value (sym (rows_section m trust p x is) ∙ g.answered) in
       let r = rows_back m trust n body (p.place + 2) x.content k.value (each_take (8 * n) (drop 2 p.bytes) (each_drop 2 p.bytes e)) few_rows k.answered in
       rows_then p x y g.value k.value e few_lines long is r k.then g.then
 
-  pub rows_tail : (p : Piece) (x y : Loaded) → Each Byte p.bytes → length x.content.rows ≤ 128 → length x.content.lines ≤ 128 → from_rows m trust p x ≡ Ok y → (rows : Option (List Row)) × (lines : Option (List Line)) × (note : Option (List ℕ)) × Tail m trust rows lines note p x y
+  pub rows_tail : (p : Piece) (x y : Loaded) → AllByRecursion Byte p.bytes → length x.content.rows ≤ 128 → length x.content.lines ≤ 128 → from_rows m trust p x ≡ Ok y → (rows : Option (List Row)) × (lines : Option (List Line)) × (note : Option (List ℕ)) × Tail m trust rows lines note p x y
   rows_tail p x y e few_rows few_lines h =
       elim (next_or_not rows_code p.bytes) [
         | inl next ↦ rows_left p x y e few_rows few_lines next.0 next.1 (sym (takes_rows m trust p x next.0 next.1) ∙ h)
@@ -257,13 +255,13 @@ module _ (m : Meaning) (trust : ℕ) (p : Piece) (x : Loaded) where
       let whole = le-ltb (length bs) (length bs) (omega arith) in
       note_section m trust p x a.its_code ∙ rw (a.its_count, a.its_body, whole)
 
-  adds_lines : (ls : List Line) (rest : List ℕ) → length x.content.lines + length ls ≤ 128 → Each (LineLimits m x.content.moments trust) ls → HeadAt p.bytes lines_code (length ls) (8 * length ls) (each_written line_bytes ls) rest → section_added m trust (next_section p) x ≡ Ok (loaded_as (with_lines m trust x.content ls) x.note)
+  adds_lines : (ls : List Line) (rest : List ℕ) → length x.content.lines + length ls ≤ 128 → AllByRecursion (LineLimits m x.content.moments trust) ls → HeadAt p.bytes lines_code (length ls) (8 * length ls) (each_written line_bytes ls) rest → section_added m trust (next_section p) x ≡ Ok (loaded_as (with_lines m trust x.content ls) x.note)
   adds_lines ls rest few keep a =
       let r = lines_forth m trust ls [] (p.place + 2) x.content few keep in
       let body = append-nil (each_written line_bytes ls) in
       lines_section m trust p x a.its_code ∙ rw (a.its_count, a.its_body, ← body, r)
 
-  adds_rows : (rs : List Row) (rest : List ℕ) → length x.content.rows + length rs ≤ 128 → Each (RowLimits m x.content.modes) rs → HeadAt p.bytes rows_code (length rs) (8 * length rs) (each_written row_bytes rs) rest → section_added m trust (next_section p) x ≡ Ok (loaded_as (with_rows x.content rs) x.note)
+  adds_rows : (rs : List Row) (rest : List ℕ) → length x.content.rows + length rs ≤ 128 → AllByRecursion (RowLimits m x.content.modes) rs → HeadAt p.bytes rows_code (length rs) (8 * length rs) (each_written row_bytes rs) rest → section_added m trust (next_section p) x ≡ Ok (loaded_as (with_rows x.content rs) x.note)
   adds_rows rs rest few keep a =
       let r = rows_forth m trust rs [] (p.place + 2) x.content few keep in
       let body = append-nil (each_written row_bytes rs) in

@@ -1,5 +1,6 @@
 -- The layout of a file: what a file describes, how that is written in bytes, and the limits that it keeps.
 use Rattle.std.specs.Prelude.{◌≡◌, ℕ, zero, suc, ◌+◌, ◌-◌, ◌*◌, ◌/◌, ◌%◌, ◌^◌, ◌<◌, ◌≤◌, true, false, ◌↔◌, List, [], ◌∷◌, ◌++◌, map, length, Some, None, Ok, Option, Result}
+use Rattle.std.specs.List.{AllByRecursion}
 use Rattle.costs.specs.Meaning.{Meaning, Cost}
 use Rattle.board.specs.declared.row.Row.{Row}
 use Rattle.board.specs.declared.row.Line.{Line}
@@ -87,11 +88,6 @@ abbrev pub written : Description → List ℕ
 written d =
     in_bytes 4 (header_word d.letter d.modes d.moments d.trust) ++ sections_written d.rows d.lines d.note
 
--- each of a list
-abbrev pub Each : {A : Type 0} → (A → Type 0) → List A → Type 0
-Each P [] = Unit {0}
-Each P (x ∷ xs) = P x × Each P xs
-
 -- a number that is a byte
 abbrev pub Byte : ℕ → Type 0
 Byte b = b < 256
@@ -134,12 +130,12 @@ pub record KeepsLimits (m : Meaning) (d : Description) : Type 0 where
   pub trust_fits : d.trust < 256
   -- at most 128 rows and 128 lines, which fits a count of 12 bits, each within its limits
   pub few_rows : length (held_in d.rows) ≤ 128
-  pub rows_keep : Each (RowLimits m d.modes) (held_in d.rows)
+  pub rows_keep : AllByRecursion (RowLimits m d.modes) (held_in d.rows)
   pub few_lines : length (held_in d.lines) ≤ 128
-  pub lines_keep : Each (LineLimits m d.moments d.trust) (held_in d.lines)
+  pub lines_keep : AllByRecursion (LineLimits m d.moments d.trust) (held_in d.lines)
   -- a note of at most 4,095 bytes
   pub note_fits : length (held_in d.note) < 4096
-  pub note_bytes : Each Byte (held_in d.note)
+  pub note_bytes : AllByRecursion Byte (held_in d.note)
 
 -- the board's content that a file describes: the costs of its lines as trust has them
 abbrev pub content_of : Meaning → Description → Content

@@ -1,20 +1,22 @@
 -- What a load answers and leaves, for every list of bytes.
-use Rattle.std.specs.Prelude.{ℕ, ◌+◌, ◌^◌, ◌<◌, Bool, cond, ◌&&◌, List, [], length, drop, Ok, Err, Result, ◌==◌, nat_le, nat_lt}
+use Rattle.std.specs.Prelude.{ℕ, Bool, cond, ◌&&◌, List, [], length, drop, Some, None, Ok, Err, Option, Result, ◌==◌, nat_le, nat_lt}
 use Rattle.costs.specs.Meaning.{Meaning}
 use Rattle.board.specs.Content.{Content, new}
+use Rattle.board.specs.Held.{draft_content}
 use Rattle.board.specs.Calls.{size_fault, size_after}
-use Rattle.file.specs.declared.part.Part.{Part}
 use Rattle.file.specs.declared.fields.Header.{Header}
 use Rattle.file.specs.declared.refusal.FileRefusal.{FileRefusal}
 use Rattle.file.specs.declared.refusal.FileRefusal.TheVariants.{CutShort, WrongSection}
 use Rattle.file.specs.declared.refusal.LoadFault.{LoadFault}
-use Rattle.file.specs.declared.section.Stage.{Stage}
-use Rattle.file.specs.declared.section.Stage.TheVariants as stage
-use Rattle.file.specs.declared.records.RecordKind.TheVariants.{Row, Line}
+use Rattle.file.specs.declared.section.SectionKind.{SectionKind}
+use Rattle.file.specs.declared.section.SectionKind.TheVariants.{Rows, Lines, Note}
+use Rattle.board.specs.declared.draft.Draft.{Draft}
+use Rattle.file.specs.declared.part.Part.{Part}
+use Rattle.file.specs.declared.filling.Filling.{Filling}
 use Rattle.file.specs.Fields.{word4, header_read, head_code}
 use Rattle.file.specs.Parts.{Piece, piece, fault_at}
 use Rattle.file.specs.Sections.{rows_code, lines_code, note_code, Found, next_section, past}
-use Rattle.file.specs.Records.{go_on, at_place, called, records}
+use Rattle.file.specs.Records.{go_on, at_place, called, row_record, line_record, records}
 
 -- a board's content and the note beside it
 pub record Loaded : Type 0 where
@@ -24,10 +26,9 @@ pub record Loaded : Type 0 where
 abbrev pub loaded_as : Content → Piece → Loaded
 loaded_as c n = record { content = c; note = n }
 
--- an answered note with the content beside it, or the fault
-abbrev pub beside : Result Part LoadFault → Content → Result Loaded LoadFault
-beside (Ok n) c = Ok (loaded_as c (piece n))
-beside (Err e) c = Err e
+-- a board that is being filled, and the note so far
+abbrev pub so_far : {K : Type 0} → Filling K → Loaded
+so_far f = loaded_as (draft_content f.draft) (piece f.note)
 
 abbrev pub with_content : Loaded → Content → Result Loaded LoadFault
 with_content x c = Ok (loaded_as c x.note)
@@ -42,8 +43,8 @@ note_taken f x = cond (nat_lt (length f.part.bytes) f.count) (Err (fault_at CutS
 -- one section: rows and lines go to the board
 abbrev pub section_added : Meaning → ℕ → Found → Loaded → Result Loaded LoadFault
 section_added m trust f x =
-    cond (f.code == rows_code) (go_on (records m trust Row f.count f.part.bytes f.part.place x.content) (with_content x))
-    (cond (f.code == lines_code) (go_on (records m trust Line f.count f.part.bytes f.part.place x.content) (with_content x))
+    cond (f.code == rows_code) (go_on (records (row_record m) f.count f.part.bytes f.part.place x.content) (with_content x))
+    (cond (f.code == lines_code) (go_on (records (line_record m trust) f.count f.part.bytes f.part.place x.content) (with_content x))
     (note_taken f x))
 
 -- the head of a section of that code comes next
@@ -70,16 +71,12 @@ from_lines m trust = in_turn m trust lines_code (from_note m trust)
 unfoldable pub from_rows : Meaning → ℕ → Piece → Loaded → Result Loaded LoadFault
 from_rows m trust = in_turn m trust rows_code (from_lines m trust)
 
--- the sections that may still come
-abbrev pub from_stage : Meaning → ℕ → Stage → Piece → Loaded → Result Loaded LoadFault
-from_stage m trust stage.Rows = from_rows m trust
-from_stage m trust stage.Lines = from_lines m trust
-from_stage m trust stage.Note = from_note m trust
-from_stage m trust stage.End = at_end
-
--- a part whose places are numbers of 64 bits
-abbrev pub Within : Found → Type 0
-Within f = f.part.place + length f.part.bytes < 2 ^ 64
+-- the sections that may still come after the last that came
+abbrev pub from_last : Meaning → ℕ → Option SectionKind → Piece → Loaded → Result Loaded LoadFault
+from_last m trust None = from_rows m trust
+from_last m trust (Some Rows) = from_lines m trust
+from_last m trust (Some Lines) = from_note m trust
+from_last m trust (Some Note) = at_end
 
 -- the board sized as the header says
 unfoldable pub sized : Header → Content → Result Content FileRefusal
@@ -92,16 +89,33 @@ no_note bs = record { bytes = []; place = length bs }
 abbrev pub after_header : List ℕ → Piece
 after_header bs = record { bytes = drop 4 bs; place = 4 }
 
+-- what a header makes of a board: its content, and the trust of the lines that follow
+pub record Opened : Type 0 where
+  pub content : Content
+  pub trust : ℕ
+
+-- the header's part
+abbrev pub opened : Meaning → List ℕ → Content → Result Opened FileRefusal
+opened m bs c =
+    cond (nat_lt (length bs) 4) (Err CutShort)
+    (go_on (header_read m (word4 bs)) (λ h. go_on (sized h c) (λ d. Ok (record { content = d; trust = h.trust }))))
+
+abbrev pub opened_as : {K : Type 0} → Result (Draft K × ℕ) FileRefusal → Result Opened FileRefusal
+opened_as (Ok p) = Ok (record { content = draft_content p.0; trust = p.1 })
+opened_as (Err e) = Err e
+
 -- the header's part, and then the sections
 abbrev pub filled : Meaning → List ℕ → Content → Result Loaded LoadFault
 filled m bs c =
-    cond (nat_lt (length bs) 4) (Err (fault_at CutShort 0))
-    (go_on (at_place (header_read m (word4 bs)) 0)
-    (λ h. go_on (at_place (sized h c) 0) (λ d. from_rows m h.trust (after_header bs) (loaded_as d (no_note bs)))))
+    go_on (at_place (opened m bs c) 0) (λ o. from_rows m o.trust (after_header bs) (loaded_as o.content (no_note bs)))
 
 -- what the file is read as on a new board
 abbrev pub loaded : Meaning → List ℕ → Result Loaded LoadFault
 loaded m bs = filled m bs new
+
+abbrev pub read_as : {K : Type 0} → Result (Draft K × Part) LoadFault → Result Loaded LoadFault
+read_as (Ok p) = Ok (loaded_as (draft_content p.0) (piece p.1))
+read_as (Err e) = Err e
 
 -- the note, or the fault
 abbrev pub note_answer : Result Loaded LoadFault → Result Piece LoadFault

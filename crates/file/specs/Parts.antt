@@ -1,6 +1,7 @@
 -- Parts of a file, and faults at their places.
 use Rattle.std.specs.Prelude.{ℕ, List, Ok, Err, Result}
 use Rattle.file.specs.declared.part.Part.{Part}
+use Rattle.file.specs.declared.unread.Unread.{Unread}
 use Rattle.file.specs.declared.refusal.FileRefusal.{FileRefusal}
 use Rattle.file.specs.declared.refusal.LoadFault.{LoadFault}
 
@@ -11,6 +12,9 @@ pub record Piece : Type 0 where
 
 abbrev pub piece : Part → Piece
 piece p = record { bytes = p.bytes.now; place = p.place }
+
+abbrev pub unread : Unread → Piece
+unread u = record { bytes = u.bytes.now; place = u.place }
 
 -- an answered part, or the fault
 abbrev pub answered : Result Part LoadFault → Result Piece LoadFault

@@ -24,8 +24,5 @@ file_number (Board e) = number e
 -- the layer of each refusal
 abbrev pub layer_of : FileRefusal → Layer
 layer_of CutShort = layer.Bytes
-layer_of WrongLetter = layer.File
-layer_of NotZero = layer.File
-layer_of WrongTrust = layer.File
-layer_of WrongSection = layer.File
 layer_of (Board e) = layer.Board
+layer_of e = layer.File

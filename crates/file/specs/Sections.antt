@@ -1,15 +1,14 @@
 -- The sections of a file, and how a reader goes from one to the next.
-use Rattle.std.specs.Prelude.{ℕ, suc, ◌+◌, ◌-◌, ◌*◌, min, Bool, cond, ◌&&◌, List, length, take, drop, Some, None, Ok, Err, Option, Result, ◌==◌, nat_le, nat_lt}
+use Rattle.std.specs.Prelude.{ℕ, ◌+◌, ◌-◌, ◌*◌, min, Bool, cond, ◌&&◌, List, length, take, drop, Some, None, Ok, Err, Option, Result, ◌==◌, nat_le, nat_lt}
 use Rattle.file.specs.declared.refusal.FileRefusal.{FileRefusal}
 use Rattle.file.specs.declared.refusal.FileRefusal.TheVariants.{CutShort, WrongSection}
 use Rattle.file.specs.declared.refusal.LoadFault.{LoadFault}
 use Rattle.file.specs.declared.section.Section.{Section}
-use Rattle.file.specs.declared.section.Section.TheVariants as section
-use Rattle.file.specs.declared.section.Stage.{Stage}
-use Rattle.file.specs.declared.section.Stage.TheVariants as stage
+use Rattle.file.specs.declared.section.SectionKind.{SectionKind}
+use Rattle.file.specs.declared.section.SectionKind.TheVariants.{Rows, Lines, Note}
 use Rattle.file.specs.declared.reader.Reader.{Reader}
 use Rattle.file.specs.Fields.{head_code, head_count}
-use Rattle.file.specs.Parts.{Piece, piece, fault_at}
+use Rattle.file.specs.Parts.{Piece, unread, fault_at}
 
 -- the codes of the sections
 abbrev pub rows_code : ℕ
@@ -20,6 +19,16 @@ lines_code = 2
 
 abbrev pub note_code : ℕ
 note_code = 3
+
+abbrev pub section_code : SectionKind → ℕ
+section_code Rows = rows_code
+section_code Lines = lines_code
+section_code Note = note_code
+
+-- the kind of section that has the code
+abbrev pub kind_of_code : ℕ → Result SectionKind FileRefusal
+kind_of_code code =
+    cond (code == rows_code) (Ok Rows) (cond (code == lines_code) (Ok Lines) (cond (code == note_code) (Ok Note) (Err WrongSection)))
 
 -- how many bytes a section has: eight for a row or a line, one for each of a note
 abbrev pub section_size : ℕ → ℕ → ℕ
@@ -32,48 +41,37 @@ pub record Found : Type 0 where
   pub count : ℕ
 
 abbrev pub found_section : Section → Found
-found_section (section.Rows p n) = record { code = rows_code; part = piece p; count = n }
-found_section (section.Lines p n) = record { code = lines_code; part = piece p; count = n }
-found_section (section.Note p n) = record { code = note_code; part = piece p; count = n }
+found_section s = record { code = section_code s.kind; part = unread s.part; count = s.count }
 
-abbrev pub found_admitted : Result Section FileRefusal → Result Found FileRefusal
-found_admitted (Ok s) = Ok (found_section s)
-found_admitted (Err e) = Err e
+abbrev pub found_read : Result Section FileRefusal → Result Found FileRefusal
+found_read (Ok s) = Ok (found_section s)
+found_read (Err e) = Err e
 
 abbrev pub found_next : Result (Option Section) LoadFault → Result (Option Found) LoadFault
 found_next (Ok None) = Ok None
 found_next (Ok (Some s)) = Ok (Some (found_section s))
 found_next (Err e) = Err e
 
--- what is left of the file, and the first section that may still come
+-- what is left of the file, and the last section that came
 pub record Reading : Type 0 where
   pub left : Piece
-  pub awaited : Stage
+  pub last : Option SectionKind
 
 abbrev pub reading : Reader → Reading
-reading r = record { left = record { bytes = r.rest.now; place = r.place }; awaited = r.awaited }
+reading r = record { left = unread r.left; last = r.last }
 
--- the least code that may still come
-abbrev pub least_code : Stage → ℕ
-least_code stage.Rows = rows_code
-least_code stage.Lines = lines_code
-least_code stage.Note = note_code
-least_code stage.End = suc note_code
+-- the code of the last section that came, 0 before the first
+abbrev pub last_code : Option SectionKind → ℕ
+last_code None = 0
+last_code (Some kind) = section_code kind
 
 -- the sections come in the order of their codes, each at most once
-abbrev pub may_come : Stage → ℕ → Bool
-may_come s code = nat_le (least_code s) code && nat_le code note_code
+abbrev pub may_come : Option SectionKind → ℕ → Bool
+may_come last code = nat_lt (last_code last) code && nat_le code note_code
 
--- what may come after a section of that code
-abbrev pub following : ℕ → Stage
-following code = cond (code == rows_code) stage.Lines (cond (code == lines_code) stage.Note stage.End)
-
--- the section of that code, or its refusal
-abbrev pub admitted : Stage → ℕ → Piece → ℕ → Result Found FileRefusal
-admitted s code p n = cond (may_come s code) (Ok (record { code = code; part = p; count = n })) (Err WrongSection)
-
-abbrev pub stage_after : Stage → ℕ → Stage
-stage_after s code = cond (may_come s code) (following code) s
+-- the last section once one of that code has come
+abbrev pub following : ℕ → Option SectionKind
+following code = cond (code == rows_code) (Some Rows) (cond (code == lines_code) (Some Lines) (Some Note))
 
 -- how many bytes the section has whose head comes next
 abbrev pub head_size : List ℕ → ℕ
@@ -98,7 +96,12 @@ past p =
 
 -- the head that comes next is of a section that may come
 abbrev pub in_order : Reading → Bool
-in_order r = may_come r.awaited (head_code r.left.bytes)
+in_order r = may_come r.last (head_code r.left.bytes)
+
+-- the section whose head comes next, or why it is refused
+abbrev pub section_answer : Reading → Result Found FileRefusal
+section_answer r =
+    cond (nat_lt (length r.left.bytes) 2) (Err CutShort) (cond (in_order r) (Ok (next_section r.left)) (Err WrongSection))
 
 -- the next section, none at the file's end, or why it is refused
 abbrev pub next_answer : Reading → Result (Option Found) LoadFault
@@ -111,4 +114,4 @@ next_answer r =
 abbrev pub next_after : Reading → Reading
 next_after r =
     cond (nat_lt (length r.left.bytes) 2) r
-    (cond (in_order r) (record { left = past r.left; awaited = following (head_code r.left.bytes) }) r)
+    (cond (in_order r) (record { left = past r.left; last = following (head_code r.left.bytes) }) r)

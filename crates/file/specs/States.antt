@@ -5,7 +5,7 @@ use Rattle.board.specs.declared.refusal.Refusal.{Refusal}
 use Rattle.board.specs.Content.{Content, new}
 use Rattle.board.specs.Calls.{size_fault, size_after, row_fault, row_after, line_fault, line_after, reprice_fault, reprice_row_after, reprice_line_after, without_lines}
 use Rattle.file.specs.declared.call.Call.{Call}
-use Rattle.file.specs.declared.call.Call.TheVariants.{Size, AddRow, AddLine, RepriceRow, RepriceLine, ClearLines, Load, Settle, Cost, Path, Between, Check, Reopen}
+use Rattle.file.specs.declared.call.Call.TheVariants.{Size, AddRow, AddLine, RepriceRow, RepriceLine, ClearLines, Load, Settle, Reopen}
 use Rattle.file.specs.Load.{load_after}
 
 -- a board, draft or settled, with its content
@@ -24,14 +24,7 @@ fault m c (AddRow r) = row_fault m c r
 fault m c (AddLine l) = line_fault m c l
 fault m c (RepriceRow i k) = reprice_fault m c.rows i k
 fault m c (RepriceLine i k) = reprice_fault m c.lines i k
-fault m c ClearLines = None
-fault m c (Load bytes) = None
-fault m c Settle = None
-fault m c Cost = None
-fault m c Path = None
-fault m c (Between s q) = None
-fault m c (Check moves) = None
-fault m c Reopen = None
+fault m c x = None
 
 -- What a call makes of a draft's content: size sets M and T, add puts a row or line last, reprice sets that number's
 -- cost, clear drops all lines, and load takes the file's content, or a new board's where it is declined. A call that is
@@ -44,44 +37,17 @@ edited m c (RepriceRow i k) = reprice_row_after m c i k
 edited m c (RepriceLine i k) = reprice_line_after m c i k
 edited m c ClearLines = without_lines c
 edited m c (Load bytes) = load_after m bytes.now
-edited m c Settle = c
-edited m c Cost = c
-edited m c Path = c
-edited m c (Between s q) = c
-edited m c (Check moves) = c
-edited m c Reopen = c
+edited m c x = c
 
 -- settle makes a draft a settled board, and all its other calls leave it a draft
 abbrev pub on_draft : Meaning → Content → Call → State
-on_draft m c (Size modes moments) = draft (edited m c (Size modes moments))
-on_draft m c (AddRow r) = draft (edited m c (AddRow r))
-on_draft m c (AddLine l) = draft (edited m c (AddLine l))
-on_draft m c (RepriceRow i k) = draft (edited m c (RepriceRow i k))
-on_draft m c (RepriceLine i k) = draft (edited m c (RepriceLine i k))
-on_draft m c ClearLines = draft (edited m c ClearLines)
-on_draft m c (Load bytes) = draft (edited m c (Load bytes))
 on_draft m c Settle = settled c
-on_draft m c Cost = draft c
-on_draft m c Path = draft c
-on_draft m c (Between s q) = draft c
-on_draft m c (Check moves) = draft c
-on_draft m c Reopen = draft c
+on_draft m c x = draft (edited m c x)
 
 -- reopen makes a settled board a draft, and no other call changes it
 abbrev pub on_settled : Content → Call → State
-on_settled c (Size modes moments) = settled c
-on_settled c (AddRow r) = settled c
-on_settled c (AddLine l) = settled c
-on_settled c (RepriceRow i k) = settled c
-on_settled c (RepriceLine i k) = settled c
-on_settled c ClearLines = settled c
-on_settled c (Load bytes) = settled c
-on_settled c Settle = settled c
-on_settled c Cost = settled c
-on_settled c Path = settled c
-on_settled c (Between s q) = settled c
-on_settled c (Check moves) = settled c
 on_settled c Reopen = draft c
+on_settled c x = settled c
 
 -- the state after one call
 abbrev pub stepped : Meaning → State → Call → State

@@ -56,75 +56,29 @@ draft_answer m c (RepriceRow i k) = repriced (answer (reprice_fault m c.rows i k
 draft_answer m c (RepriceLine i k) = repriced (answer (reprice_fault m c.lines i k) tt)
 draft_answer m c ClearLines = cleared (length c.lines)
 draft_answer m c (Load bytes) = loaded (load_answer m bytes.now)
-draft_answer m c Settle = not_taken
-draft_answer m c Cost = not_taken
-draft_answer m c Path = not_taken
-draft_answer m c (Between s q) = not_taken
-draft_answer m c (Check moves) = not_taken
-draft_answer m c Reopen = not_taken
+draft_answer m c x = not_taken
 
 -- a settled board's answers, from its content and its records; it takes the questions alone
 abbrev pub settled_answer : Meaning → Content → List Record → Call → List ℕ → Told
-settled_answer m c log (Size modes moments) buffer = not_taken
-settled_answer m c log (AddRow r) buffer = not_taken
-settled_answer m c log (AddLine l) buffer = not_taken
-settled_answer m c log (RepriceRow i k) buffer = not_taken
-settled_answer m c log (RepriceLine i k) buffer = not_taken
-settled_answer m c log ClearLines buffer = not_taken
-settled_answer m c log (Load bytes) buffer = not_taken
-settled_answer m c log Settle buffer = not_taken
 settled_answer m c log Cost buffer = costs (cost_answer m c log)
 settled_answer m c log Path buffer = writes (path_answer m c log buffer)
 settled_answer m c log (Between s q) buffer = between (between_answer c log s q)
 settled_answer m c log (Check moves) buffer = checked (check_answer m c moves.now)
-settled_answer m c log Reopen buffer = not_taken
+settled_answer m c log x buffer = not_taken
 
 -- path writes into the buffer, and no other question does
 abbrev pub settled_buffer : Meaning → Content → List Record → Call → List ℕ → List ℕ
-settled_buffer m c log (Size modes moments) buffer = buffer
-settled_buffer m c log (AddRow r) buffer = buffer
-settled_buffer m c log (AddLine l) buffer = buffer
-settled_buffer m c log (RepriceRow i k) buffer = buffer
-settled_buffer m c log (RepriceLine i k) buffer = buffer
-settled_buffer m c log ClearLines buffer = buffer
-settled_buffer m c log (Load bytes) buffer = buffer
-settled_buffer m c log Settle buffer = buffer
-settled_buffer m c log Cost buffer = buffer
 settled_buffer m c log Path buffer = path_after m c log buffer
-settled_buffer m c log (Between s q) buffer = buffer
-settled_buffer m c log (Check moves) buffer = buffer
-settled_buffer m c log Reopen buffer = buffer
+settled_buffer m c log x buffer = buffer
 
 -- settling and reopening answer that they are done
 abbrev pub step_answer_draft : Meaning → Content → Call → Told
-step_answer_draft m c (Size modes moments) = draft_answer m c (Size modes moments)
-step_answer_draft m c (AddRow r) = draft_answer m c (AddRow r)
-step_answer_draft m c (AddLine l) = draft_answer m c (AddLine l)
-step_answer_draft m c (RepriceRow i k) = draft_answer m c (RepriceRow i k)
-step_answer_draft m c (RepriceLine i k) = draft_answer m c (RepriceLine i k)
-step_answer_draft m c ClearLines = draft_answer m c ClearLines
-step_answer_draft m c (Load bytes) = draft_answer m c (Load bytes)
 step_answer_draft m c Settle = settles
-step_answer_draft m c Cost = draft_answer m c Cost
-step_answer_draft m c Path = draft_answer m c Path
-step_answer_draft m c (Between s q) = draft_answer m c (Between s q)
-step_answer_draft m c (Check moves) = draft_answer m c (Check moves)
-step_answer_draft m c Reopen = draft_answer m c Reopen
+step_answer_draft m c x = draft_answer m c x
 
 abbrev pub step_answer_settled : Meaning → Content → List Record → Call → List ℕ → Told
-step_answer_settled m c log (Size modes moments) buffer = settled_answer m c log (Size modes moments) buffer
-step_answer_settled m c log (AddRow r) buffer = settled_answer m c log (AddRow r) buffer
-step_answer_settled m c log (AddLine l) buffer = settled_answer m c log (AddLine l) buffer
-step_answer_settled m c log (RepriceRow i k) buffer = settled_answer m c log (RepriceRow i k) buffer
-step_answer_settled m c log (RepriceLine i k) buffer = settled_answer m c log (RepriceLine i k) buffer
-step_answer_settled m c log ClearLines buffer = settled_answer m c log ClearLines buffer
-step_answer_settled m c log (Load bytes) buffer = settled_answer m c log (Load bytes) buffer
-step_answer_settled m c log Settle buffer = settled_answer m c log Settle buffer
-step_answer_settled m c log Cost buffer = settled_answer m c log Cost buffer
-step_answer_settled m c log Path buffer = settled_answer m c log Path buffer
-step_answer_settled m c log (Between s q) buffer = settled_answer m c log (Between s q) buffer
-step_answer_settled m c log (Check moves) buffer = settled_answer m c log (Check moves) buffer
 step_answer_settled m c log Reopen buffer = reopened
+step_answer_settled m c log x buffer = settled_answer m c log x buffer
 
 -- What a call answers on a board in that state, with those records where it is settled, and what it leaves of the buffer.
 abbrev pub step_answer : Meaning → State → List Record → Call → List ℕ → Told

@@ -1,9 +1,8 @@
 // Bit fields of a file, most significant first.
 ghost use Rattle.std.specs.Prelude.{◌≡◌, ◌^◌, ◌<◌};
-ghost use Rattle.file.specs.Fields.{field, kind_at, header_read, row_read, line_read};
+ghost use Rattle.file.specs.Fields.{field, header_read};
 
 use crate::refusal::FileRefusal;
-use board::{Line, Row, RowKind};
 use costs::Kind;
 
 // What a header says beside the kind's letter: M, T and trust.
@@ -42,49 +41,5 @@ pub(crate) fn read_header<K: Kind>(word: u32) -> Result<Header, FileRefusal>
         modes: bits(word, 17, 7) as u8,
         moments: bits(word, 10, 7) as u8,
         trust,
-    })
-}
-
-// The kind of row that has the number.
-fn row_kind(number: u64) -> RowKind
-    ensures { result ≡ kind_at number }
-{
-    match number {
-        0 => RowKind::Plain,
-        1 => RowKind::Open,
-        2 => RowKind::Close,
-        _ => RowKind::End,
-    }
-}
-
-// The row that eight bytes are: kind (2), from (6), to (6), label (8), action (8), zeros (2), cost (32).
-pub(crate) fn read_row(word: u64) -> Result<Row, FileRefusal>
-    ensures { result ≡ row_read word }
-{
-    if bits(word, 32, 2) != 0 {
-        return Err(FileRefusal::NotZero);
-    }
-    Ok(Row {
-        kind: row_kind(bits(word, 62, 2)),
-        from: bits(word, 56, 6) as u8,
-        to: bits(word, 50, 6) as u8,
-        label: bits(word, 42, 8) as u8,
-        action: bits(word, 34, 8) as u8,
-        cost: bits(word, 0, 32) as u32,
-    })
-}
-
-// The line that eight bytes are: from (6), to (6), event (8), zeros (12), cost (32).
-pub(crate) fn read_line(word: u64) -> Result<Line, FileRefusal>
-    ensures { result ≡ line_read word }
-{
-    if bits(word, 32, 12) != 0 {
-        return Err(FileRefusal::NotZero);
-    }
-    Ok(Line {
-        from: bits(word, 58, 6) as u8,
-        to: bits(word, 52, 6) as u8,
-        event: bits(word, 44, 8) as u8,
-        cost: bits(word, 0, 32) as u32,
     })
 }

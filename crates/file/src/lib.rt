@@ -4,16 +4,17 @@
 mod boards;
 mod call;
 mod fields;
+mod filling;
 mod loading;
 mod part;
 mod reader;
-mod records;
+mod record;
 mod refusal;
 mod replaying;
 mod section;
-mod sections;
 mod stepping;
 mod trust;
+mod unread;
 
 pub use boards::Board;
 pub use call::{Answer, Call};

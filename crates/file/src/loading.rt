@@ -1,20 +1,19 @@
 // Loading a file into a draft.
-ghost use Rattle.std.specs.Prelude.{◌≡◌};
+ghost use Rattle.std.specs.Prelude.{◌≡◌, ◌+◌, drop, OnOk, IfOk};
 ghost use Rattle.costs.specs.Meaning.{Meaning};
-ghost use Rattle.board.specs.Content.{Content, Sound};
+ghost use Rattle.board.specs.Content.{Content, Sound, new};
 ghost use Rattle.board.specs.Held.{draft_content};
 ghost use Rattle.file.specs.Examples.{LayoutExamples};
 ghost use Rattle.file.specs.Parts.{answered};
-ghost use Rattle.file.specs.Records.{told};
 ghost use Rattle.file.specs.Layout.{LoadsExactly};
-ghost use Rattle.file.specs.Load.{beside, sized, filled, load_answer, load_after};
+ghost use Rattle.file.specs.Load.{read_as, opened_as, opened, loaded, load_answer, load_after};
 
-use crate::fields::{Header, read_header};
+use crate::fields::read_header;
+use crate::filling::Filling;
 use crate::part::{Note, Part};
 use crate::reader::Reader;
 use crate::refusal::{FileRefusal, LoadFault};
-use crate::section::Stage;
-use crate::sections::add_sections;
+use crate::unread::Unread;
 use board::Draft;
 use costs::Kind;
 
@@ -43,59 +42,47 @@ impl<K: Kind> Load for Draft<K> {
     }
 }
 
-// Fills a new draft from the file; where a part is refused, the draft is new again.
+// Fills a new draft from the file; where a part is refused, the draft is new.
 fn load_draft<'a, K: Kind>(draft: &mut Draft<K>, bytes: &'a [u8]) -> Result<Note<'a>, LoadFault>
     ensures answer { answered result ≡ load_answer K.meaning bytes.now }
     ensures after { draft_content draft.new ≡ load_after K.meaning bytes.now }
     ensures sound { Sound K.meaning (draft_content draft.new) }
 {
     *draft = Draft::new();
-    match fill(draft, bytes) {
-        Ok(note) => Ok(note),
-        Err(fault) => {
-            *draft = Draft::new();
-            Err(fault)
-        }
-    }
+    let (filled, note) = read_file(bytes)?;
+    *draft = filled;
+    Ok(note)
 }
 
-// Sizes the draft as the header says.
-fn size_draft<K: Kind>(draft: &mut Draft<K>, header: Header) -> Result<(), FileRefusal>
-    ensures after { told result (draft_content draft.new) ≡ sized header (draft_content draft.old) }
-    ensures kept { Sound K.meaning (draft_content draft.old) → Sound K.meaning (draft_content draft.new) }
+// The board that the file describes, and its note.
+fn read_file<'a, K: Kind>(bytes: &'a [u8]) -> Result<(Draft<K>, Note<'a>), LoadFault>
+    ensures answer { read_as result ≡ loaded K.meaning bytes.now }
+    ensures sound { IfOk result (λ p. Sound K.meaning (draft_content p.0)) }
 {
-    match draft.size(header.modes as u32, header.moments as u32) {
-        Ok(()) => Ok(()),
-        Err(refusal) => Err(FileRefusal::Board(refusal)),
-    }
-}
-
-// Sizes and fills an empty draft from the file, until a part of it is refused.
-fn fill<'a, K: Kind>(draft: &mut Draft<K>, bytes: &'a [u8]) -> Result<Note<'a>, LoadFault>
-    ensures after { beside result (draft_content draft.new) ≡ filled K.meaning bytes.now (draft_content draft.old) }
-    ensures kept { Sound K.meaning (draft_content draft.old) → Sound K.meaning (draft_content draft.new) }
-{
-    let [a, b, c, d, rest @ ..] = bytes else {
-        return Err(LoadFault {
-            refusal: FileRefusal::CutShort,
-            place: 0,
-        });
-    };
-    let header = match read_header::<K>(u32::from_be_bytes([*a, *b, *c, *d])) {
-        Ok(header) => header,
-        Err(refusal) => return Err(LoadFault { refusal, place: 0 }),
-    };
-    if let Err(refusal) = size_draft(draft, header) {
-        return Err(LoadFault { refusal, place: 0 });
-    }
+    let mut left = Unread { bytes, place: 0 };
+    let (draft, trust) = open(&mut left).map_err(|refusal| refusal.at(0))?;
     let none = Part {
         bytes: &bytes[bytes.len()..],
         place: bytes.len(),
     };
-    let mut reader = Reader {
-        rest,
-        place: 4,
-        awaited: Stage::Rows,
+    let mut filling = Filling {
+        draft,
+        trust,
+        note: none,
     };
-    add_sections(draft, header.trust, &mut reader, none)
+    filling.add_sections(Reader { left, last: None })?;
+    Ok((filling.draft, filling.note))
+}
+
+// A new board, sized as the header says, and the trust that the header gives.
+fn open<K: Kind>(left: &mut Unread<'_>) -> Result<(Draft<K>, u8), FileRefusal>
+    ensures answer { opened_as result ≡ opened K.meaning left.old.bytes.now new }
+    ensures rest { OnOk result ((left.new.bytes.now ≡ drop 4 left.old.bytes.now) × (left.new.place ≡ left.old.place + 4)) }
+    ensures sound { IfOk result (λ p. Sound K.meaning (draft_content p.0)) }
+{
+    let head = left.read().ok_or(FileRefusal::CutShort)?;
+    let header = read_header::<K>(u32::from_be_bytes(head))?;
+    let mut draft = Draft::new();
+    draft.size(u32::from(header.modes), u32::from(header.moments))?;
+    Ok((draft, header.trust))
 }

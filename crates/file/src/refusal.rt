@@ -1,11 +1,13 @@
 // Why a load was declined.
 ghost use Rattle.std.specs.Prelude.{◌≡◌};
+ghost use Rattle.file.specs.declared.refusal.FileRefusal.TheVariants.{Board};
 ghost use Rattle.file.specs.Refusals.{file_number, layer_number, layer_of};
+ghost use Rattle.file.specs.Parts.{fault_at};
 
 use board::Refusal;
 
 // Which layer declined.
-#[derive(Clone, Copy)]
+#[derive(Clone, Copy, Debug, PartialEq, Eq)]
 pub enum Layer {
     // 1: the bytes end too early
     Bytes = 1,
@@ -16,7 +18,7 @@ pub enum Layer {
 }
 
 // The refusals of a load. In each part of the file the file's own come before the board's.
-#[derive(Clone, Copy)]
+#[derive(Clone, Copy, Debug, PartialEq, Eq)]
 pub enum FileRefusal {
     // 20: the part being read is cut short
     CutShort,
@@ -33,7 +35,7 @@ pub enum FileRefusal {
 }
 
 // A declined load: why, and the place of the part that was being read.
-#[derive(Clone, Copy)]
+#[derive(Clone, Copy, Debug, PartialEq, Eq)]
 pub struct LoadFault {
     pub refusal: FileRefusal,
     pub place: usize,
@@ -72,6 +74,24 @@ impl FileRefusal {
             FileRefusal::Board(_) => Layer::Board,
             _ => Layer::File,
         }
+    }
+
+    // The load declined with it, in the part at that place.
+    pub(crate) fn at(self, place: usize) -> LoadFault
+        ensures { result ≡ fault_at self place }
+    {
+        LoadFault {
+            refusal: self,
+            place,
+        }
+    }
+}
+
+impl From<Refusal> for FileRefusal {
+    ghost from_gives = { λ refusal r. r ≡ Board refusal };
+
+    fn from(refusal: Refusal) -> FileRefusal {
+        Self::Board(refusal)
     }
 }
 

@@ -14,10 +14,8 @@ pub fn replay<K: Kind>(calls: &[Call<'_>]) -> Board<K>
     ensures promise { MainPromise K.meaning calls.now }
 {
     let mut board = Board::Drafted(Draft::new());
-    let mut buffer = [0];
     for call in calls {
-        let (next, _) = step(board, *call, &mut buffer);
-        board = next;
+        board = step(board, *call, &mut []).0;
     }
     board
 }

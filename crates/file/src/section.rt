@@ -1,24 +1,50 @@
 // The sections of a file.
-use crate::part::Part;
+ghost use Rattle.std.specs.Prelude.{◌≡◌};
+ghost use Rattle.file.specs.Sections.{section_code, kind_of_code, section_size};
 
-// A section: its bytes after its head, as far as the file goes, and how many records or bytes its head announces. Each
-// case has its code in the file.
-#[derive(Clone, Copy)]
-pub(crate) enum Section<'a> {
-    // 1: rows
-    Rows(Part<'a>, u16),
-    // 2: lines
-    Lines(Part<'a>, u16),
-    // 3: a note
-    Note(Part<'a>, u16),
+use crate::refusal::FileRefusal;
+use crate::unread::Unread;
+
+// What a section holds, in the order of the file. Each kind has its code there.
+#[derive(Clone, Copy, PartialEq, Eq, PartialOrd, Ord)]
+pub(crate) enum SectionKind {
+    Rows = 1,
+    Lines = 2,
+    Note = 3,
 }
 
-// The first section that may still come. The sections come in the order of their codes, each at most once.
+// A section: its bytes after its head, as far as the file goes, and how many records or bytes its head announces.
 #[derive(Clone, Copy)]
-pub(crate) enum Stage {
-    Rows,
-    Lines,
-    Note,
-    // none may
-    End,
+pub(crate) struct Section<'a> {
+    pub kind: SectionKind,
+    pub part: Unread<'a>,
+    pub count: u16,
+}
+
+impl SectionKind {
+    // How many bytes a section of so many records or bytes has: eight for a row or a line, one for each of a note.
+    pub fn size(self, count: u16) -> usize
+        ensures { result ≡ section_size (section_code self) count }
+    {
+        match self {
+            SectionKind::Rows | SectionKind::Lines => 8 * usize::from(count),
+            SectionKind::Note => usize::from(count),
+        }
+    }
+}
+
+impl TryFrom<u16> for SectionKind {
+    type Error = FileRefusal;
+
+    ghost try_from_gives = { λ code r. r ≡ kind_of_code code };
+
+    // The kind that has the code.
+    fn try_from(code: u16) -> Result<SectionKind, FileRefusal> {
+        match code {
+            1 => Ok(SectionKind::Rows),
+            2 => Ok(SectionKind::Lines),
+            3 => Ok(SectionKind::Note),
+            _ => Err(FileRefusal::WrongSection),
+        }
+    }
 }

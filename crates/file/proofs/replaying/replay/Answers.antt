@@ -1,4 +1,4 @@
-use Rattle.std.proofs.Common.{List, take, sym, ◌∙◌, subst}
+use Rattle.std.proofs.Common.{List, take, sym, subst}
 use Rattle.std.proofs.lemmas.List.{take_more, take_all}
 use Rattle.file.specs.declared.call.Call.{Call}
 use Rattle.file.specs.declared.call.Call.TheVariants.{Size}
@@ -11,11 +11,11 @@ loop-call-preserved g c =
     let m = g.K.Kind.meaning in
     let calls = c.args.calls.now in
     let i = c.loop-call.call-index in
-    (subst (λ (xs : List Call). Holds m xs c.step-next.result.0) (sym (take_more calls i (Size 0 0) c.loop-call-test.true)) (c.step-next.ensures.history (take i calls) c.loop-call.invariant.0).holds, c.step-next.auto.buffer ∙ c.loop-call.invariant.1)
+    subst (λ (xs : List Call). Holds m xs c.step-board.result.0) (sym (take_more calls i (Size 0 0) c.loop-call-test.true)) (c.step-board.ensures.history (take i calls) c.loop-call.invariant).holds
 
 pub returns : goal.returns
 returns g c =
     let m = g.K.Kind.meaning in
     let calls = c.args.calls.now in
-    let h = subst (λ (xs : List Call). Holds m xs c.loop-call.board) (take_all c.loop-call.call-index calls c.loop-call-test.false) c.loop-call.invariant.0 in
+    let h = subst (λ (xs : List Call). Holds m xs c.loop-call.board) (take_all c.loop-call.call-index calls c.loop-call-test.false) c.loop-call.invariant in
     record { holds = h; promise = main_promise g.met.K.Kind.lawful h.promises calls }

@@ -1,6 +1,6 @@
-use Rattle.std.proofs.Common.{◌≡◌, length, take}
+use Rattle.std.proofs.Common.{take}
 use Rattle.file.specs.Histories.{Holds}
 use Rattle.file.proofs.replaying.replay.Given as goal
 
 abbrev pub invariant-loop-call : goal.invariant-loop-call
-invariant-loop-call g l = Holds g.K.Kind.meaning (take l.call-index l.calls) l.board × (length l.buffer ≡ 1)
+invariant-loop-call g l = Holds g.K.Kind.meaning (take l.call-index l.calls) l.board

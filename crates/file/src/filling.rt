@@ -1,0 +1,14 @@
+// A board that is being filled from a file.
+use crate::part::Note;
+use board::Draft;
+use costs::Kind;
+
+mod steps;
+
+// The board so far, what trust makes of its lines, and the note so far.
+#[derive(Drop)]
+pub(crate) struct Filling<'a, K: Kind> {
+    pub draft: Draft<K>,
+    pub trust: u8,
+    pub note: Note<'a>,
+}
