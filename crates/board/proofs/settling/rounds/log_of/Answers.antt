@@ -4,7 +4,7 @@ use Rattle.board.specs.Held.{held}
 use Rattle.board.specs.Logs.{Book}
 use Rattle.board.proofs.Pricing.{sound_tables}
 use Rattle.board.proofs.Starting.{empty_book}
-use Rattle.board.proofs.Turning.{settled_small}
+use Rattle.board.proofs.Packs.{settled_small}
 use Rattle.board.proofs.Holding.{small_moves}
 use Rattle.board.proofs.settling.rounds.log_of.Goals as goal
 
