@@ -37,10 +37,14 @@ fn settle_one<K: Kind>(t: &Tables, log: &mut Log, r: Entry, best: &mut [Option<E
 fn better<K: Kind>(found: Option<Entry>, new: Option<Entry>) -> Option<Entry>
     ensures { result ≡ better_entry K.meaning found new }
 {
+    let Some(r) = new else {
+        return found;
+    };
     let limit = found.map_or(K::worst(), |x| x.cost);
-    match new {
-        Some(r) if !K::no_dearer(limit, r.cost) => new,
-        _ => found,
+    if K::no_dearer(limit, r.cost) {
+        found
+    } else {
+        new
     }
 }
 
