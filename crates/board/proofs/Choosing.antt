@@ -1,6 +1,15 @@
 -- The scan of a round.
-use Rattle.std.proofs.Common.{◌≡◌, ℕ, ◌+◌, ◌<◌, ◌≤◌, ◌⊎◌, List, [], get_or, Some, None, Option, sym, refl, ap, ◌∙◌, subst, ap₂, inl, inr, ⊎_elim, arith}
+use Rattle.std.proofs.Common.{◌≡◌, ℕ, ◌+◌, ◌<◌, ◌≤◌, ◌⊎◌, Bool, true, false, cond, List, [], ◌∷◌, ◌++◌, length, get_or, Some, None, Option, sym, refl, ap, ◌∙◌, subst, subst₂, ap₂, inl, inr, ⊎_elim, arith, length-append}
 use Rattle.std.proofs.lemmas.Bool.{cases_eq, cases_lt}
+use Rattle.std.proofs.lemmas.Iterator.{zips}
+use Rattle.std.proofs.lemmas.Slice.Zip.{zip_turn}
+use Rattle.std.proofs.iter.Yields.{fronts}
+use Rattle.std.specs.Iterator.{Yields}
+use Rattle.std.specs.Iterator.Adapters.{zip_first, zip_second}
+use Rattle.std.specs.Slice.Iter.{iter_rest}
+use Rattle.std.specs.declared.iter.Zip.{Zip}
+use Rattle.std.specs.declared.slice.Iter.{Iter}
+use denote.Ref.{Bor}
 use Rattle.costs.specs.Meaning.{Meaning, Lawful, Cost, NoDearer}
 use Rattle.board.specs.Settling.{Cheaper, Record, Candidate, Precedes, Lex, key, Unsettled, Round}
 use Rattle.board.specs.Moves.{Place, On, place_number}
@@ -15,7 +24,7 @@ use Rattle.board.specs.declared.log.Log.{Log}
 use Rattle.board.specs.Content.{Content}
 use Rattle.board.specs.Logged.{pair_of, record_of}
 use Rattle.board.specs.Grown.{Refers}
-use Rattle.board.specs.Logs.{records, numbered, nth_record, Kept, State, vacant, standing, First, Chosen, limit_of, CostsBest}
+use Rattle.board.specs.Logs.{records, numbered, nth_record, Kept, State, vacant, standing, First, Chosen, limit_of, better_entry, CostsBest}
 use Rattle.board.proofs.Logging.{in_logged, logged_in, logged_length}
 use Rattle.board.proofs.Growing.{pair_in, pair_parts, number_in}
 use Rattle.board.proofs.Offering.{all_priced, all_based}
@@ -33,18 +42,18 @@ module _ {m : Meaning} (laws : Lawful m) where
     first_within x r k q hx hr (inl c) = cheaper_no_dearer laws _ _ hx hr c
     first_within x r k q hx hr (inr e) = no_dearer_eq laws _ _ hx e.0
 
-    pub chosen_skip : (x : Option Entry) → f n ≡ None → Chosen m f n x → Chosen m f (n + 1) x
+    chosen_skip : (x : Option Entry) → f n ≡ None → Chosen m f n x → Chosen m f (n + 1) x
     chosen_skip None e c = last (λ q r. NoDearer m m.worst r.cost) c (λ r z. absurd (none_some _ _ e z))
     chosen_skip (Some x) e c = let h = c.pair_in in record { pair = c.pair; pair_in = omega arith; stands = c.stands; below = c.below; first = last (λ q r. Cheaper m x.cost r.cost ⊎ ((x.cost ≡ r.cost) × (c.pair ≤ q))) c.first (λ r z. absurd (none_some _ _ e z)) }
 
-    pub chosen_keep : (x : Option Entry) (y : Entry) → f n ≡ Some y → NoDearer m (limit_of m x) y.cost → Chosen m f n x → Chosen m f (n + 1) x
+    chosen_keep : (x : Option Entry) (y : Entry) → f n ≡ Some y → NoDearer m (limit_of m x) y.cost → Chosen m f n x → Chosen m f (n + 1) x
     chosen_keep None y e w c = last (λ q r. NoDearer m m.worst r.cost) c (λ r z. subst (λ (k : Entry). NoDearer m m.worst k.cost) (some_eq _ _ _ e z) w)
     chosen_keep (Some x) y e w c =
         let h = c.pair_in in
         let here : Cheaper m x.cost y.cost ⊎ ((x.cost ≡ y.cost) × (c.pair ≤ n)) = ⊎_elim (λ t. inl t) (λ t. inr (t, omega arith)) (cheaper_or laws _ _ (priced _ x c.stands) (priced n y e) w) in
         record { pair = c.pair; pair_in = omega arith; stands = c.stands; below = c.below; first = last (λ q r. Cheaper m x.cost r.cost ⊎ ((x.cost ≡ r.cost) × (c.pair ≤ q))) c.first (λ r z. subst (λ (k : Entry). Cheaper m x.cost k.cost ⊎ ((x.cost ≡ k.cost) × (c.pair ≤ n))) (some_eq _ _ _ e z) here) }
 
-    pub chosen_take : (x : Option Entry) (y : Entry) → f n ≡ Some y → Cheaper m y.cost (limit_of m x) → Chosen m f n x → First m f (n + 1) y
+    chosen_take : (x : Option Entry) (y : Entry) → f n ≡ Some y → Cheaper m y.cost (limit_of m x) → Chosen m f n x → First m f (n + 1) y
     chosen_take x y e c k = record {
       pair = n;
       pair_in = omega arith;
@@ -64,6 +73,25 @@ module _ {m : Meaning} (laws : Lawful m) where
         dearer : (x : Option Entry) → Chosen m f n x → (q : ℕ) (r : Entry) → q < n → f q ≡ Some r → NoDearer m (limit_of m x) r.cost
         dearer None k q r h z = k q r h z
         dearer (Some x) k q r h z = first_within x r k.pair q (priced _ x k.stands) (priced q r z) (k.first q r h z)
+
+    chosen_better : (x : Option Entry) → Chosen m f n x → Chosen m f (n + 1) (better_entry m x (f n))
+    chosen_better x k = here (f n) refl
+      where
+        test : (y : Entry) → f n ≡ Some y → (b : Bool) → m.no_dearer (limit_of m x) y.cost ≡ b → Chosen m f (n + 1) (cond b x (Some y))
+        test y e true h = chosen_keep x y e h k
+        test y e false h = chosen_take x y e h k
+
+        here : (o : Option Entry) → f n ≡ o → Chosen m f (n + 1) (better_entry m x o)
+        here None e = chosen_skip x e k
+        here (Some y) e = test y e (m.no_dearer (limit_of m x) y.cost) refl
+
+  -- one turn of a scan of a log's index beside the best candidates, which has yielded xs
+  module _ (l : Log) (best : List (Option Entry)) (costs : CostsBest m best) (xs : List (Bor (Option ℕ) × Bor (Option Entry))) (s t u : Zip (Iter (Option ℕ)) (Iter (Option Entry))) (first : iter_rest (zip_first s) ≡ l.index) (second : iter_rest (zip_second s) ≡ best) (y : Yields (zips fronts fronts) s xs t) where
+    pub chosen_turn : (r : Option (Bor (Option ℕ) × Bor (Option Entry))) (p : Bor (Option ℕ) × Bor (Option Entry)) → r ≡ Some p → zips fronts fronts t r u → (x x' : Option Entry) → x' ≡ better_entry m x (vacant p.0.now p.1.now) → Chosen m (standing l best) (length xs) x → Chosen m (standing l best) (length (xs ++ (p ∷ []))) x'
+    chosen_turn r p e h x x' b k =
+        let z = zip_turn l.index best xs s t u r first second y p e h in
+        let here = ap (better_entry m x) (ap₂ vacant (z.2 None) (z.3 None)) in
+        subst₂ (Chosen m (standing l best)) (sym (length-append xs (p ∷ []))) (sym (b ∙ here)) (chosen_better (standing l best) (λ q r e. costs q r (vacant_some _ _ r e).1) (length xs) x k)
 
 -- what the scan found is the round's
 module _ {m : Meaning} {t : Content} {l : Log} {best : List (Option Entry)} (laws : Lawful m) (s : State m t l best) where

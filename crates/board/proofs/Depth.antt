@@ -20,7 +20,7 @@ use Rattle.board.proofs.Decomposing.{same_head, same_tail, no_cons}
 use Rattle.board.proofs.Spelling.{spelled, path-++}
 use Rattle.board.proofs.Readings.{reading_complete}
 use Rattle.board.proofs.Existence.{board_pairs, length_board_pairs, open_in, open_length, round_fewer}
-use Rattle.board.proofs.Turning.{path_small}
+use Rattle.board.proofs.Packs.{path_small}
 use Rattle.board.proofs.Packs.{all_unpacked}
 use Rattle.board.proofs.Accepting.{accepts}
 

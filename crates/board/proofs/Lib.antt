@@ -33,7 +33,6 @@ pub mod Calling
 pub mod Choosing
 pub mod Pushing
 pub mod Starting
-pub mod Turning
 pub mod Unwinding
 pub mod Holding
 pub mod Packs

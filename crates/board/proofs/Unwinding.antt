@@ -6,12 +6,32 @@ use Rattle.board.specs.declared.cursor.Pending.{Pending}
 use Rattle.board.specs.declared.log.Log.{Log}
 use Rattle.board.specs.declared.log.Source.TheVariants.{Start, Step, Call}
 use Rattle.board.specs.declared.moves.Move.{Move}
-use Rattle.board.specs.Settling.{bare}
+use Rattle.board.specs.Settling.{Record, bare}
 use Rattle.board.specs.Logged.{spelled, logged}
 use Rattle.board.specs.Logs.{numbered}
 use Rattle.board.specs.Spelled.{Spells, moves_at}
 use Rattle.board.specs.Cursors.{nothing, level, opened, opened_below}
-use Rattle.board.proofs.Turning.{moves_step, moves_call}
+use Rattle.board.specs.Grown.{Refers}
+use Rattle.board.proofs.Logging.{settled_is}
+
+-- an entry's length is kept, its front and inside are earlier, and its moves are theirs with its own
+module _ {l : Log} (s : Spells l) (i : ℕ) (within : i < l.count) where
+  pub counted : length (moves_at l i) < 65536 → get_or l.lengths i 0 ≡ length (moves_at l i)
+  counted h = omega (arith, s.lengths_are i within)
+
+  pub step_in : (b : ℕ) (v : Move) → (numbered l i).source ≡ Step b v → b < i
+  step_in b v e = subst (Refers i) e (s.earlier i within)
+
+  pub moves_step : (b : ℕ) (v : Move) → (numbered l i).source ≡ Step b v → moves_at l i ≡ moves_at l b ++ (v ∷ [])
+  moves_step b v e = ap (spelled (logged l.entries i)) e ∙ ap (λ (x : Record). x.moves ++ (v ∷ [])) (settled_is l.entries i b (step_in b v e))
+
+  pub call_in : (b j o w t : ℕ) → (numbered l i).source ≡ Call b j o w t → (b < i) × (j < i)
+  call_in b j o w t e = subst (Refers i) e (s.earlier i within)
+
+  pub moves_call : (b j o w t : ℕ) → (numbered l i).source ≡ Call b j o w t → moves_at l i ≡ moves_at l b ++ (bare o ∷ (moves_at l j ++ (bare w ∷ [])))
+  moves_call b j o w t e =
+      let h = call_in b j o w t e in
+      ap (spelled (logged l.entries i)) e ∙ ap₂ (λ (x y : Record). x.moves ++ (bare o ∷ (y.moves ++ (bare w ∷ [])))) (settled_is l.entries i b h.0) (settled_is l.entries i j h.1)
 
 pub none_opened : (l : Log) (ps : List Pending) → opened_below l ps 0 ≡ []
 unfolding opened_below
@@ -90,6 +110,3 @@ module _ (f : Move → ℕ) (ms : List Move) (old : List ℕ) (n : ℕ) where
       ap₂ (λ (o : List ℕ) (y : ℕ). set o (k - 1) y) split z
       ∙ (set_at (take (k - 1) old) (get_or old (k - 1) 0) rest (f (get_or ms (k - 1) (bare 0))) (k - 1) (length-take-le (k - 1) old (omega arith))
       ∙ ap (λ (t : List Move). take (k - 1) old ++ (map f t ++ drop n old)) (sym (drop_more ms (k - 1) (bare 0) (omega arith))))
-
-  pub write_all : (k : ℕ) (out : List ℕ) → k ≡ 0 → n ≡ length ms → out ≡ written k → out ≡ map f ms ++ drop (length ms) old
-  write_all k out z l e = e ∙ (ap written z ∙ ap (λ (m : ℕ). map f ms ++ drop m old) l)

@@ -1,5 +1,5 @@
 -- A log's array of entries and its index.
-use Rattle.std.specs.Prelude.{◌≡◌, ℕ, suc, ◌+◌, ◌<◌, ◌≤◌, min, Bool, true, false, ◌⊎◌, List, [], ◌∷◌, length, replicate, Some, None, Option, slice_index, slice_index_or, slice_set}
+use Rattle.std.specs.Prelude.{◌≡◌, ℕ, suc, ◌+◌, ◌<◌, ◌≤◌, min, Bool, true, false, cond, ◌⊎◌, List, [], ◌∷◌, length, replicate, Some, None, Option, slice_index, slice_index_or, slice_set}
 use Rattle.std.proofs.Props.{props}
 use Rattle.board.specs.declared.log.Source.{Source}
 use Rattle.board.specs.declared.log.Source.TheVariants.{Start, Step, Call}
@@ -174,6 +174,11 @@ Chosen m f n (Some x) = First m f n x
 abbrev pub limit_of : Meaning → Option Entry → ℕ
 limit_of m None = m.worst
 limit_of m (Some x) = x.cost
+
+-- the better of what was found and a candidate
+abbrev pub better_entry : Meaning → Option Entry → Option Entry → Option Entry
+better_entry m x None = x
+better_entry m x (Some y) = cond (m.no_dearer (limit_of m x) y.cost) x (Some y)
 
 -- each that stands costs a cost of the kind
 abbrev pub CostsBest : Meaning → List (Option Entry) → Type 0

@@ -3,8 +3,6 @@ use Rattle.std.specs.Prelude.{◌≡◌, ℕ, ◌<◌, ◌≤◌, min, List, len
 use Rattle.board.specs.declared.moves.Move.{Move}
 use Rattle.board.specs.Settling.{bare}
 use Rattle.board.specs.declared.log.Log.{Log}
-use Rattle.board.specs.declared.log.Turn.{Turn}
-use Rattle.board.specs.declared.log.Turn.TheVariants.{Here, Deeper}
 use Rattle.board.specs.Grown.{Refers}
 use Rattle.board.specs.Logs.{numbered, nth_record}
 
@@ -21,14 +19,3 @@ moves_at l i = (nth_record l i).moves
 -- move k of entry i
 abbrev pub move_of : Log → ℕ → ℕ → Move
 move_of l i k = slice_index_or (moves_at l i) k (bare 0)
-
--- entry i has a move k, and fewer than 65,536 moves
-pub record Asked (l : Log) (i k : ℕ) : Type 0 where
-  pub within : i < l.count
-  pub inside : k < length (moves_at l i)
-  pub short : length (moves_at l i) < 65536
-
--- the turn is that move, or leads to an earlier entry that has it
-abbrev pub Turned : Log → ℕ → ℕ → Turn → Type 0
-Turned l i k (Here v) = v ≡ move_of l i k
-Turned l i k (Deeper j n) = (j < i) × Asked l j n × (move_of l j n ≡ move_of l i k)

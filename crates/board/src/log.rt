@@ -49,10 +49,3 @@ pub(crate) struct Way {
     pub cost: u32,
     pub bracket: u8,
 }
-
-// Where a move of an entry stands: here, or in an earlier entry at a number of its own.
-#[derive(Clone, Copy)]
-pub(crate) enum Turn {
-    Here(Move),
-    Deeper(usize, usize),
-}

@@ -4,22 +4,26 @@ ghost use Rattle.board.specs.Held.{held};
 ghost use Rattle.board.specs.Settling.{Settled, diagonal};
 ghost use Rattle.board.specs.Logged.{pair_of, record_of};
 ghost use Rattle.board.specs.Grown.{Refers};
-ghost use Rattle.board.specs.Logs.{State, Kept, Book, records, standing, Chosen, CostsBest, Reached, RoundMade};
+ghost use Rattle.board.specs.Logs.{State, Kept, Book, records, standing, Chosen, better_entry, CostsBest, Reached, RoundMade};
 
 use crate::log::{Entry, Log, Source};
 use crate::settling::{Known, Settling};
 use crate::tables::Tables;
 use costs::Kind;
 
-// What stands for the pair, where it is not settled.
-fn standing(log: &Log, best: &[Option<Entry>], pair: usize) -> Option<Entry>
-    requires pair { pair < 4096 }
-    requires long { length best.now ≡ 4096 }
-    ensures { result ≡ standing log.now best.now pair }
+// The better of what was found and a candidate, of which the former comes first where they tie; one that is no cheaper
+// than the worst is none.
+fn better<K: Kind>(found: Option<Entry>, new: Option<Entry>) -> Option<Entry>
+    ensures { result ≡ better_entry K.meaning found new }
 {
-    match log.at(pair) {
-        Some(_) => None,
-        None => best[pair],
+    let Some(r) = new else {
+        return found;
+    };
+    let limit = found.map_or(K::worst(), |x| x.cost);
+    if K::no_dearer(limit, r.cost) {
+        found
+    } else {
+        new
     }
 }
 
@@ -29,14 +33,10 @@ fn least<K: Kind>(log: &Log, best: &[Option<Entry>]) -> Option<Entry>
     requires costs { CostsBest K.meaning best.now }
     ensures { Chosen K.meaning (standing log.now best.now) 4096 result }
 {
-    let mut limit = K::worst();
     let mut found = None;
-    for p in 0..4096 {
-        if let Some(r) = standing(log, best, p) {
-            if !K::no_dearer(limit, r.cost) {
-                limit = r.cost;
-                found = Some(r);
-            }
+    for (settled, candidate) in log.index.iter().zip(best) {
+        if settled.is_none() {
+            found = better::<K>(found, *candidate);
         }
     }
     found

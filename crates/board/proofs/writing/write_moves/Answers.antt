@@ -1,20 +1,28 @@
-use Rattle.board.proofs.writing.write_moves.Goals as goal
-use Rattle.std.proofs.Common.{◌≡◌, ◌<◌, length, get_or, ap, ◌∙◌, arith}
+use Rattle.std.proofs.Common.{◌-◌, length, take, sym, ap, ◌∙◌, subst, arith}
+use Rattle.std.proofs.lemmas.List.{take_all}
+use Rattle.board.specs.Packing.{packed, Small}
 use Rattle.board.specs.Spelled.{moves_at}
-use Rattle.board.specs.Packing.{packed}
-use Rattle.board.proofs.Turning.{write_more, write_all}
+use Rattle.board.proofs.Unwinding.{counted, last_of, write_none, write_more}
+use Rattle.board.proofs.writing.write_moves.Goals as goal
+
+pub loop-k-init : goal.loop-k-init
+loop-k-init c =
+    let l = c.args.log.now in
+    let ms = moves_at l c.args.i in
+    let n = counted c.requires.spells c.args.i c.requires.within c.requires.short in
+    (c.past-cursor.ensures.walks l c.requires.within, c.past-cursor.ensures.all l ∙ sym (take_all (length ms) ms (omega arith)) ∙ ap (λ k. take k ms) (sym n), write_none packed ms c.args.out.now _ n)
+
+pub pack-requires : goal.pack-requires
+pack-requires c =
+    let ms = moves_at c.args.log.now c.args.i in
+    let n = counted c.requires.spells c.args.i c.requires.within c.requires.short in
+    let e = last_of ms _ c.loop-k.k c.previous.result c.loop-k-test.true (omega arith) (sym c.loop-k.invariant.1 ∙ c.previous.ensures.last) in
+    subst Small (sym e.1) (c.requires.small (c.loop-k.k - 1) (omega arith))
 
 pub loop-k-preserved : goal.loop-k-preserved
 loop-k-preserved c =
-    let e = c.requires.spells.lengths_are c.args.i c.requires.within in
-    let s = c.requires.short in
+    let ms = moves_at c.args.log.now c.args.i in
+    let n = counted c.requires.spells c.args.i c.requires.within c.requires.short in
+    let e = last_of ms _ c.loop-k.k c.previous.result c.loop-k-test.true (omega arith) (sym c.loop-k.invariant.1 ∙ c.previous.ensures.last) in
     let r = c.requires.room in
-    let h : c.loop-k.k < length (moves_at c.args.log.now c.args.i) = omega arith in
-    write_more packed (moves_at c.args.log.now c.args.i) c.args.out.now c.loop-k.out c.loop-k.k c.pack.result h (omega arith) c.loop-k.invariant (c.pack.ensures ∙ ap packed c.move_at.ensures)
-
-pub returns : goal.returns
-returns c =
-    let e = c.requires.spells.lengths_are c.args.i c.requires.within in
-    let s = c.requires.short in
-    let n : get_or c.args.log.now.lengths c.args.i 0 ≡ length (moves_at c.args.log.now c.args.i) = omega arith in
-    record { count = n; after = write_all packed (moves_at c.args.log.now c.args.i) c.args.out.now c.loop-k.out c.loop-k.k (omega arith) c.loop-k.invariant }
+    (c.previous.ensures.walks, e.0, write_more packed ms c.args.out.now _ c.loop-k.k c.pack.result c.loop-k.out c.loop-k-test.true (omega arith) (omega arith) c.loop-k.invariant.2 (c.pack.ensures ∙ ap packed e.1))

@@ -1,7 +1,9 @@
 use Rattle.board.proofs.writing.write_moves.Given as goal
-use Rattle.std.proofs.Common.{◌≡◌, ◌++◌, map, take, drop}
+use Rattle.std.proofs.Common.{◌≡◌, take}
 use Rattle.board.specs.Spelled.{moves_at}
 use Rattle.board.specs.Packing.{packed}
+use Rattle.board.specs.Cursors.{Walks, remaining}
+use Rattle.board.proofs.Unwinding.{written}
 
 abbrev pub invariant-loop-k : goal.invariant-loop-k
-invariant-loop-k l = l.out ≡ map packed (take l.k (moves_at l.log l.i)) ++ drop l.k l.initial.out
+invariant-loop-k l = Walks l.log l.cursor × (remaining l.log l.cursor ≡ take l.k (moves_at l.log l.i)) × (l.out ≡ written packed (moves_at l.log l.i) l.initial.out l.n l.k)

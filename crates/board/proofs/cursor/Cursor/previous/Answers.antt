@@ -1,6 +1,6 @@
 use Rattle.std.proofs.Common.{ℕ, ◌+◌, ◌-◌, ◌<◌, length, arith}
 use Rattle.board.specs.declared.cursor.Pending.{Pending}
-use Rattle.board.proofs.Turning.{step_in, call_in}
+use Rattle.board.proofs.Unwinding.{step_in, call_in}
 use Rattle.board.proofs.Unwinding.{each_pushed, start_inside, start_last, step_last, call_last}
 use Rattle.board.proofs.cursor.Cursor.previous.Goals as goal
 

@@ -6,7 +6,7 @@ use Rattle.board.specs.Boards.{settled_content, settled_records, reading_of}
 use Rattle.board.specs.Spelled.{move_of}
 use Rattle.board.specs.Questions.{path_answer, path_after, PathMeans}
 use Rattle.board.proofs.Answering.{path_means}
-use Rattle.board.proofs.Turning.{settled_small}
+use Rattle.board.proofs.Packs.{settled_small}
 use Rattle.board.proofs.Telling.{path_long, path_short}
 use Rattle.board.proofs.Holding.{settled_of, spells}
 use Rattle.board.proofs.settled.Settled.path.Goals as goal

@@ -1,6 +1,6 @@
 use Rattle.board.proofs.settling.rounds.least.Given as goal
-use Rattle.std.proofs.Common.{◌≡◌}
-use Rattle.board.specs.Logs.{standing, Chosen, limit_of}
+use Rattle.std.proofs.Common.{length}
+use Rattle.board.specs.Logs.{standing, Chosen}
 
-abbrev pub invariant-loop-p : goal.invariant-loop-p
-invariant-loop-p g l = (l.limit ≡ limit_of g.K.Kind.meaning l.found) × Chosen g.K.Kind.meaning (standing l.log l.best) l.p l.found
+abbrev pub invariant-loop-settled : goal.invariant-loop-settled
+invariant-loop-settled g l = Chosen g.K.Kind.meaning (standing l.log l.best) (length l.yielded) l.found
