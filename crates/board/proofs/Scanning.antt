@@ -1,15 +1,19 @@
 -- Steps of the scan for the recorded reading.
-use Rattle.std.proofs.Common.{◌≡◌, ℕ, ◌+◌, ◌<◌, ◌≤◌, true, List, [], ◌∷◌, ◌++◌, length, get_or, Some, None, Option, sym, refl, ap, ◌∙◌, add-one, arith, length-take}
+use Rattle.std.proofs.Common.{◌≡◌, ℕ, ◌+◌, ◌<◌, ◌≤◌, Bool, true, false, cond, List, [], ◌∷◌, ◌++◌, length, get_or, Some, None, Option, sym, refl, ap, ◌∙◌, add-one, arith, length-take}
 use Rattle.std.specs.List.{slice_get}
 use Rattle.std.proofs.lemmas.Bool.{cond-true}
 use Rattle.costs.specs.Meaning.{Meaning}
 use Rattle.board.specs.declared.row.Row.{Row}
 use Rattle.board.specs.declared.moves.Arrival.{Arrival}
+use Rattle.board.specs.declared.log.Log.{Log}
+use Rattle.board.specs.declared.reading.Reading.{Reading}
+use Rattle.board.specs.Boards.{reading_of}
+use Rattle.board.specs.Entries.{ReadingIn}
 use Rattle.board.specs.Content.{Content}
 use Rattle.board.specs.Moves.{Place, is_end}
 use Rattle.board.specs.Settling.{Record, bare}
 use Rattle.board.specs.Arrivals.{arrival_on}
-use Rattle.board.specs.Computing.{ReadingFound, ending, reading_at, better, best_moments, mode_left, best_rows, found}
+use Rattle.board.specs.Computing.{ReadingFound, ending, reading_at, limit_by, better_by, better, best_moments, mode_left, best_rows, found}
 use Rattle.board.proofs.Elements.{nth_below}
 use Rattle.std.proofs.lemmas.Option.{slice_get-get_or}
 use Rattle.board.proofs.Transitions.{arrival_transition}
@@ -54,3 +58,26 @@ unfolding found
 rows_all m c log i rs x same h k e =
     let n : i ≡ length c.rows = omega (arith, ap length same) in
     e ∙ ap (best_rows m c log) n
+
+-- the better of two readings, told by their entries
+pub reading_better : (m : Meaning) (l : Log) (a b : Option Reading) → reading_of l (better_by m (λ r. r.cost) a b) ≡ better m (reading_of l a) (reading_of l b)
+reading_better m l a None = refl
+reading_better m l None (Some x) = by (m.no_dearer m.worst x.cost)
+  where
+    by : (t : Bool) → reading_of l (cond t None (Some x)) ≡ cond t None (reading_of l (Some x))
+    by true = refl
+    by false = refl
+reading_better m l (Some f) (Some x) = by (m.no_dearer f.cost x.cost)
+  where
+    by : (t : Bool) → reading_of l (cond t (Some f) (Some x)) ≡ cond t (reading_of l (Some f)) (reading_of l (Some x))
+    by true = refl
+    by false = refl
+
+-- it is one of the two
+pub better_within : (m : Meaning) (n t : ℕ) (a b : Option Reading) → ReadingIn n t a → ReadingIn n t b → ReadingIn n t (better_by m (λ r. r.cost) a b)
+better_within m n t a None h k = h
+better_within m n t a (Some x) h k = by (m.no_dearer (limit_by m (λ r. r.cost) a) x.cost)
+  where
+    by : (q : Bool) → ReadingIn n t (cond q a (Some x))
+    by true = h
+    by false = k

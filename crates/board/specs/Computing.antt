@@ -173,11 +173,20 @@ ending m i (Some h) (Some a) =
 abbrev pub reading_at : Meaning → Content → List Record → ℕ → Place → Option ReadingFound
 reading_at m c log i p = ending m i (arrival_on m c (bare i) p) (record_between c log 0 (place_number c p))
 
--- the better of two readings, of which the first comes first where they tie; one that is no cheaper than the worst is none
+-- what the next must cost less than, to be better
+abbrev pub limit_by : {A : Type 0} → Meaning → (A → ℕ) → Option A → ℕ
+limit_by m cost None = m.worst
+limit_by m cost (Some x) = cost x
+
+-- the better of two by their costs, of which the first comes first where they tie; one that is no cheaper than the worst is
+-- none
+abbrev pub better_by : {A : Type 0} → Meaning → (A → ℕ) → Option A → Option A → Option A
+better_by m cost b None = b
+better_by m cost b (Some x) = cond (m.no_dearer (limit_by m cost b) (cost x)) b (Some x)
+
+-- the better of two readings
 abbrev pub better : Meaning → Option ReadingFound → Option ReadingFound → Option ReadingFound
-better m b None = b
-better m None (Some x) = cond (m.no_dearer m.worst x.cost) None (Some x)
-better m (Some b) (Some x) = cond (m.no_dearer b.cost x.cost) (Some b) (Some x)
+better m b o = better_by m (λ f. f.cost) b o
 
 -- the best of b and the readings by the row i in the mode n at the moments below t
 unfoldable pub best_moments : Meaning → Content → List Record → ℕ → ℕ → ℕ → Option ReadingFound → Option ReadingFound

@@ -1,5 +1,5 @@
 -- A log's array of entries and its index.
-use Rattle.std.specs.Prelude.{◌≡◌, ℕ, suc, ◌+◌, ◌<◌, ◌≤◌, min, Bool, true, false, cond, ◌⊎◌, List, [], ◌∷◌, length, replicate, Some, None, Option, slice_index, slice_index_or, slice_set}
+use Rattle.std.specs.Prelude.{◌≡◌, ℕ, suc, ◌+◌, ◌<◌, ◌≤◌, min, Bool, true, false, ◌⊎◌, List, [], ◌∷◌, length, replicate, Some, None, Option, slice_index, slice_index_or, slice_set}
 use Rattle.std.proofs.Props.{props}
 use Rattle.board.specs.declared.log.Source.{Source}
 use Rattle.board.specs.declared.log.Source.TheVariants.{Start, Step, Call}
@@ -14,6 +14,7 @@ use Rattle.board.specs.declared.log.Log.{Log}
 use Rattle.board.specs.declared.moves.Move.{Move}
 use Rattle.board.specs.declared.log.Way.{Way}
 use Rattle.board.specs.Logged.{pair_of, logged, record_at, blank}
+use Rattle.board.specs.Computing.{limit_by, better_by}
 use Rattle.board.specs.Grown.{Refers, BestOk, Covered, Grown, Stepped, Called}
 
 -- the records of a log, the newest first
@@ -172,13 +173,11 @@ Chosen m f n (Some x) = First m f n x
 
 -- what the next must cost less than
 abbrev pub limit_of : Meaning → Option Entry → ℕ
-limit_of m None = m.worst
-limit_of m (Some x) = x.cost
+limit_of m x = limit_by m (λ y. y.cost) x
 
 -- the better of what was found and a candidate
 abbrev pub better_entry : Meaning → Option Entry → Option Entry → Option Entry
-better_entry m x None = x
-better_entry m x (Some y) = cond (m.no_dearer (limit_of m x) y.cost) x (Some y)
+better_entry m x o = better_by m (λ y. y.cost) x o
 
 -- each that stands costs a cost of the kind
 abbrev pub CostsBest : Meaning → List (Option Entry) → Type 0

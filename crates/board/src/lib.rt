@@ -3,6 +3,7 @@
 
 mod check;
 mod checker;
+mod costed;
 mod cursor;
 mod draft;
 mod log;

@@ -1,27 +1,14 @@
 // Finding the recorded reading.
 ghost use Rattle.std.specs.Prelude.{◌≡◌, ℕ, length};
-ghost use Rattle.board.specs.declared.log.Log.{Log};
 ghost use Rattle.board.specs.Boards.{settled_content, settled_records, entry_record, reading_of};
-ghost use Rattle.board.specs.Computing.{record_between, reading_at, better, found};
+ghost use Rattle.board.specs.Computing.{record_between, reading_at, found};
 ghost use Rattle.board.specs.Entries.{EntryIn, ReadingIn};
 
+use crate::costed::better;
 use crate::moves::{Move, Place};
 use crate::reading::Reading;
 use crate::settled::Settled;
 use costs::Kind;
-
-// The better of two readings, of which the first comes first where they tie; one that is no cheaper than the worst is
-// none.
-fn better<K: Kind>(a: Option<Reading>, b: Option<Reading>) -> Option<Reading>
-    ensures which { (l : Log) → reading_of l result ≡ better K.meaning (reading_of l a) (reading_of l b) }
-    ensures within { (n t : ℕ) → ReadingIn n t a → ReadingIn n t b → ReadingIn n t result }
-{
-    let Some(x) = b else {
-        return a;
-    };
-    let limit = a.map_or(K::worst(), |f| f.cost);
-    if K::no_dearer(limit, x.cost) { a } else { b }
-}
 
 impl<K: Kind> Settled<K> {
     // The number of the entry from the place numbered `from` to the place numbered `to`, if the pair is settled.
@@ -59,7 +46,7 @@ impl<K: Kind> Settled<K> {
         for (n, row) in self.tables.rows.iter().enumerate() {
             for moment in 0..self.tables.moments {
                 let next = self.reading_at(n as u8, (row.from, moment));
-                best = better::<K>(best, next);
+                best = better::<K, _>(best, next);
             }
         }
         best

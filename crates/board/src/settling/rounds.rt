@@ -4,28 +4,13 @@ ghost use Rattle.board.specs.Held.{held};
 ghost use Rattle.board.specs.Settling.{Settled, diagonal};
 ghost use Rattle.board.specs.Logged.{pair_of, record_of};
 ghost use Rattle.board.specs.Grown.{Refers};
-ghost use Rattle.board.specs.Logs.{State, Kept, Book, records, standing, Chosen, better_entry, CostsBest, Reached, RoundMade};
+ghost use Rattle.board.specs.Logs.{State, Kept, Book, records, standing, Chosen, CostsBest, Reached, RoundMade};
 
+use crate::costed::better;
 use crate::log::{Entry, Log, Source};
 use crate::settling::{Known, Settling};
 use crate::tables::Tables;
 use costs::Kind;
-
-// The better of what was found and a candidate, of which the former comes first where they tie; one that is no cheaper
-// than the worst is none.
-fn better<K: Kind>(found: Option<Entry>, new: Option<Entry>) -> Option<Entry>
-    ensures { result ≡ better_entry K.meaning found new }
-{
-    let Some(r) = new else {
-        return found;
-    };
-    let limit = found.map_or(K::worst(), |x| x.cost);
-    if K::no_dearer(limit, r.cost) {
-        found
-    } else {
-        new
-    }
-}
 
 // The least candidate below the worst for an unsettled pair, that of the first pair where some tie.
 fn least<K: Kind>(log: &Log, best: &[Option<Entry>]) -> Option<Entry>
@@ -36,7 +21,7 @@ fn least<K: Kind>(log: &Log, best: &[Option<Entry>]) -> Option<Entry>
     let mut found = None;
     for (settled, candidate) in log.index.iter().zip(best) {
         if settled.is_none() {
-            found = better::<K>(found, *candidate);
+            found = better::<K, _>(found, *candidate);
         }
     }
     found

@@ -1,7 +1,9 @@
-use Rattle.std.proofs.Common.{◌∙◌}
+use Rattle.std.proofs.Common.{length, sym, ap, ◌∙◌, subst}
+use Rattle.board.specs.Boards.{reading_of}
+use Rattle.board.specs.Entries.{ReadingIn}
 use Rattle.board.specs.Held.{held}
 use Rattle.board.specs.Logs.{records}
-use Rattle.board.proofs.Scanning.{moments_none, moments_more, rows_none, rows_more, rows_all}
+use Rattle.board.proofs.Scanning.{moments_none, moments_more, rows_none, rows_more, rows_all, reading_better, better_within}
 use Rattle.board.proofs.settled.Settled.recorded.Goals as goal
 
 pub loop-n-init : goal.loop-n-init
@@ -13,8 +15,8 @@ loop-moment-init g c = (c.loop-n.invariant.0 ∙ moments_none _ _ _ _ _ _, c.loo
 pub loop-moment-preserved : goal.loop-moment-preserved
 loop-moment-preserved g c =
     let s = c.args.self.now in (
-      moments_more g.K.Kind.meaning (held s.tables) (records s.log) _ _ _ _ _ _ _ c.loop-moment.invariant.0 c.reading_at-next.ensures.which (c.better-best.ensures.which s.log),
-      c.better-best.ensures.within _ _ c.loop-moment.invariant.1 c.reading_at-next.ensures.within,
+      moments_more g.K.Kind.meaning (held s.tables) (records s.log) _ _ _ _ _ _ _ c.loop-moment.invariant.0 c.reading_at-next.ensures.which (ap (reading_of s.log) c.better-best.ensures ∙ reading_better g.K.Kind.meaning s.log c.loop-moment.best c.reading_at-next.result),
+      subst (ReadingIn s.log.count (length s.tables.rows.items)) (sym c.better-best.ensures) (better_within g.K.Kind.meaning _ _ c.loop-moment.best c.reading_at-next.result c.loop-moment.invariant.1 c.reading_at-next.ensures.within),
     )
 
 pub loop-n-preserved : goal.loop-n-preserved
