@@ -1,10 +1,10 @@
 // A cursor on the moves of an entry, from the last back to the first.
-ghost use Rattle.std.specs.Prelude.{◌≡◌, length};
+use arrayvec::ArrayVec;
 
 mod steps;
 
 // A call whose inside is being read: its open row and then the moves of its front are still to come.
-#[derive(Clone, Copy)]
+#[derive(Clone, Copy, Default)]
 pub(crate) struct Pending {
     pub front: u16,
     pub row: u8,
@@ -14,7 +14,5 @@ pub(crate) struct Pending {
 #[derive(Drop)]
 pub(crate) struct Cursor {
     at: usize,
-    stack: [Pending; 4096],
-    depth: usize,
-    ghost long: { length stack ≡ 4096 },
+    stack: ArrayVec<Pending, 4096>,
 }

@@ -6,8 +6,7 @@ ghost use Rattle.board.specs.Cursors.{Walks, remaining};
 use crate::cursor::{Cursor, Pending};
 use crate::log::{Log, Source};
 use crate::moves::Move;
-
-const NOTHING: Pending = Pending { front: 0, row: 0 };
+use arrayvec::ArrayVec;
 
 impl Cursor {
     // Past the last move of the entry i.
@@ -17,8 +16,7 @@ impl Cursor {
     {
         Cursor {
             at: i,
-            stack: [NOTHING; 4096],
-            depth: 0,
+            stack: ArrayVec::new(),
         }
     }
 
@@ -33,8 +31,9 @@ impl Cursor {
         let entry = log.entries[self.at];
         match entry.source {
             Source::Start => {
-                self.depth -= 1;
-                let pending = self.stack[self.depth];
+                let Some(pending) = self.stack.pop() else {
+                    unreachable!()
+                };
                 self.at = pending.front as usize;
                 Move {
                     row: pending.row,
@@ -46,8 +45,7 @@ impl Cursor {
                 by
             }
             Source::Call(front, inside, open, close, _) => {
-                self.stack[self.depth] = Pending { front, row: open };
-                self.depth += 1;
+                self.stack.push(Pending { front, row: open });
                 self.at = inside as usize;
                 Move {
                     row: close,

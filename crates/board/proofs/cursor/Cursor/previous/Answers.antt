@@ -1,45 +1,38 @@
-use Rattle.std.proofs.Common.{ℕ, ◌+◌, ◌-◌, ◌<◌, length, arith}
+use Rattle.std.proofs.Common.{◌≡◌, List, [], ◌∷◌, ◌++◌, Some, sym, ap, ◌∙◌, ⊎_elim, arith, length-append}
+use Rattle.std.specs.List.{slice_get}
 use Rattle.board.specs.declared.cursor.Pending.{Pending}
-use Rattle.board.proofs.Unwinding.{step_in, call_in}
-use Rattle.board.proofs.Unwinding.{each_pushed, start_inside, start_last, step_last, call_last}
+use Rattle.board.proofs.Elements.{nth_push, nth_below}
+use Rattle.board.proofs.Unwinding.{call_in, step_last, call_last}
 use Rattle.board.proofs.cursor.Cursor.previous.Goals as goal
 
-pub overflow_sub-self : goal.overflow_sub-self
-overflow_sub-self c =
+pub returns-in-Step-clause-last : goal.returns-in-Step-clause-last
+returns-in-Step-clause-last c =
     let s = c.args.self.now in
     let w = c.requires.walks.room in
-    start_inside c.requires.spells s.at (omega arith) s.stack s.depth c.in-Start.is c.requires.left
+    step_last c.requires.spells s.at (omega arith) s.stack.items c.in-Step.front c.in-Step.by c.in-Step.is
 
-pub returns-in-Start : goal.returns-in-Start
-returns-in-Start c =
-    let s = c.args.self.now in
-    let w = c.requires.walks.room in
-    let h : 0 < s.depth = start_inside c.requires.spells s.at (omega arith) s.stack s.depth c.in-Start.is c.requires.left in
-    record {
-      walks = record { room = c.requires.walks.fronts (s.depth - 1) (omega arith); fronts = λ j g. c.requires.walks.fronts j (omega arith) };
-      last = start_last c.requires.spells s.at (omega arith) s.stack s.depth c.in-Start.is h;
-    }
-
-pub returns-in-Step : goal.returns-in-Step
-returns-in-Step c =
-    let s = c.args.self.now in
-    let w = c.requires.walks.room in
-    let i = step_in c.requires.spells s.at (omega arith) c.in-Step.front c.in-Step.by c.in-Step.is in
-    record {
-      walks = record { room = omega arith; fronts = c.requires.walks.fronts };
-      last = step_last c.requires.spells s.at (omega arith) s.stack s.depth c.in-Step.front c.in-Step.by c.in-Step.is;
-    }
-
-pub returns-in-Call : goal.returns-in-Call
-returns-in-Call c =
+pub returns-in-Call-clause-walks : goal.returns-in-Call-clause-walks
+returns-in-Call-clause-walks c =
     let s = c.args.self.now in
     let l = c.args.log.now in
     let a = c.in-Call in
     let w = c.requires.walks.room in
-    let r = c.requires.spells.room in
     let i = call_in c.requires.spells s.at (omega arith) a.front a.inside a.open a.close a.field-4 a.is in
-    let d : s.depth < length s.stack = omega (arith, s.long) in
+    let pushed : Pending = record { front = a.front; row = a.open } in
     record {
-      walks = record { room = omega (arith, i.1); fronts = each_pushed (λ (j : ℕ) (p : Pending). p.front + j < l.count) s.stack s.depth _ d c.requires.walks.fronts (omega (arith, i.0)) };
-      last = call_last c.requires.spells s.at (omega arith) s.stack s.depth a.front a.inside a.open a.close a.field-4 a.is d;
+      room = omega (arith, i.1, c.push.ensures.len);
+      fronts = λ j p e.
+          let held : slice_get (s.stack.items ++ (pushed ∷ [])) j ≡ Some p = ap (λ (ps : List Pending). slice_get ps j) (sym c.push.ensures.items) ∙ e in
+          ⊎_elim (c.requires.walks.fronts j p) (λ (is : pushed ≡ p).
+          let front : a.front ≡ p.front = ap (λ (x : Pending). x.front) is in
+          let within = nth_below _ j p held in
+          let long = length-append s.stack.items (pushed ∷ []) in
+          omega (arith, i.0)) (nth_push s.stack.items pushed j p held);
     }
+
+pub returns-in-Call-clause-last : goal.returns-in-Call-clause-last
+returns-in-Call-clause-last c =
+    let s = c.args.self.now in
+    let a = c.in-Call in
+    let w = c.requires.walks.room in
+    call_last c.requires.spells s.at (omega arith) s.stack.items c.push.new.self.items a.front a.inside a.open a.close a.field-4 a.is c.push.ensures.items

@@ -1,4 +1,3 @@
-use Rattle.std.proofs.Common.{rules}
 use Rattle.board.specs.Held.{held}
 use Rattle.board.proofs.Keeps.{clear_keeps}
 use Rattle.board.proofs.draft.Draft.clear_lines.Goals as goal

@@ -1,9 +1,8 @@
-use Rattle.std.proofs.Common.{◌≡◌, List, ℕ, Some, Option, length, sym, subst, subst₂, inl, inr, ⊎_elim, arith, rules}
+use Rattle.std.proofs.Common.{◌≡◌, Some, Option, length, sym, subst, subst₂, inl, inr, ⊎_elim, arith, rules}
 use Rattle.board.specs.declared.reading.Reading.{Reading}
 use Rattle.board.specs.Computing.{found}
 use Rattle.board.specs.Entries.{ReadingIn}
 use Rattle.board.specs.Boards.{settled_content, settled_records, reading_of}
-use Rattle.board.specs.Spelled.{move_of}
 use Rattle.board.specs.Questions.{path_answer, path_after, PathMeans}
 use Rattle.board.proofs.Answering.{path_means}
 use Rattle.board.proofs.Packs.{settled_small}

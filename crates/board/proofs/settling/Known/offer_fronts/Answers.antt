@@ -1,11 +1,10 @@
-use Rattle.std.proofs.Common.{◌≡◌, ℕ, ◌+◌, ◌*◌, ◌<◌, List, length, get_or, Some, None, Option, sym, ap, ◌∙◌, subst, arith}
-use Rattle.std.specs.List.{slice_get}
+use Rattle.std.proofs.Common.{◌≡◌, ℕ, ◌+◌, ◌*◌, List, get_or, Some, None, Option, sym, ap, ◌∙◌, subst, arith}
 use Rattle.board.specs.declared.log.Entry.{Entry}
 use Rattle.board.specs.Settling.{Record}
-use Rattle.board.specs.Moves.{moment, place_number}
+use Rattle.board.specs.Moves.{moment}
 use Rattle.board.specs.Held.{held}
 use Rattle.board.specs.Logs.{Grows, numbered, CallsAt}
-use Rattle.board.proofs.Growing.{grown_same, grown_none, grown_more, grown_for, upto_eq}
+use Rattle.board.proofs.Growing.{grown_same, grown_more, grown_for, upto_eq}
 use Rattle.board.proofs.Knowing.{ready_of}
 use Rattle.board.proofs.Calling.{got, seen, place_small, front_found, front_opened, front_hit, front_miss, fronts_all, fronts_none}
 use Rattle.board.proofs.settling.Known.offer_fronts.Goals as goal

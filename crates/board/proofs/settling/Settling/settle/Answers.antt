@@ -1,7 +1,6 @@
-use Rattle.std.proofs.Common.{ℕ, ◌<◌, get_or, None, sym, ap, ◌∙◌, subst, arith}
+use Rattle.std.proofs.Common.{ℕ, get_or, None, sym, ap, ◌∙◌, subst, arith}
 use Rattle.board.specs.declared.log.Log.{Log}
 use Rattle.board.specs.Held.{held}
-use Rattle.board.specs.Logged.{pair_of}
 use Rattle.board.specs.Logs.{Ready, BestKept, State, Grows, Uses, records}
 use Rattle.board.proofs.Growing.{pair_in}
 use Rattle.board.proofs.Pushing.{room_here, pushed_records, pushed_ready, pushed_ok, pushed_state}
