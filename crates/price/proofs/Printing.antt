@@ -1,9 +1,10 @@
 -- Adding to what is printed.
-use Rattle.std.proofs.Common.{◌≡◌, ℕ, ◌+◌, ◌<◌, ◌≤◌, List, [], ◌∷◌, ◌++◌, length, get_or, drop, sym, refl, ap, ◌∙◌, append_assoc, append-nil}
+use Rattle.std.proofs.Common.{◌≡◌, ℕ, ◌+◌, ◌<◌, ◌≤◌, List, [], ◌∷◌, ◌++◌, length, get_or, drop, Some, None, Option, IfSome, IsSomeAnd, sym, refl, ap, ◌∙◌, append_assoc, append-nil}
 use Rattle.std.specs.List.{flat_map}
 use Rattle.std.proofs.lemmas.List.{drop_more, drop_all}
 use Rattle.words.specs.Pieces.{newline, pieces_of, NoSeparator}
-use Rattle.price.specs.Report.{line_printed, report_of, LineByLine}
+use Rattle.price.specs.Lines.{LineAnswer, line_answer}
+use Rattle.price.specs.Report.{printed, line_printed, report_of, LineByLine}
 use Rattle.words.proofs.Cutting.{cuts_apart}
 
 -- three parts added one after another
@@ -13,6 +14,11 @@ three_parts out a b c x y z one two three =
     ∙ ap (λ l. l ++ c) (two ∙ ap (λ l. l ++ b) one)
     ∙ append_assoc (out ++ a) b c
     ∙ append_assoc out a (b ++ c)
+
+-- what was printed of an outcome that is the line's answer
+pub appended : (out new line : List ℕ) (o : Option LineAnswer) → IfSome o (λ a. a ≡ line_answer line) → IsSomeAnd o (λ a. new ≡ out ++ printed a) → new ≡ out ++ line_printed line
+appended out new line None is made = absurd made
+appended out new line (Some a) is made = made ∙ ap (λ b. out ++ printed b) is
 
 -- one line more, and the end of the lines
 module _ (lines : List (List ℕ)) (i : ℕ) (out : List ℕ) where

@@ -1,11 +1,15 @@
 -- Reading the words of a line.
-use Rattle.std.proofs.Common.{◌≡◌, ℕ, suc, ◌+◌, ◌<◌, ◌≤◌, List, [], ◌∷◌, ◌++◌, length, get_or, drop, Some, None, Ok, Err, Option, Result, sym, refl, ap, ◌∙◌, ⊎_elim, append_assoc, append-nil, arith}
+use Rattle.std.proofs.Common.{◌≡◌, ℕ, suc, ◌+◌, ◌<◌, ◌≤◌, List, [], ◌∷◌, ◌++◌, length, get_or, drop, Some, None, Ok, Err, Option, Result, subst, sym, refl, ap, ◌∙◌, ⊎_elim, append_assoc, append-nil, arith}
+use Rattle.std.specs.Option.{ok_or}
+use Rattle.std.specs.Borrow.{Bor}
 use Rattle.std.proofs.lemmas.List.{drop_more, drop_all}
 use Rattle.std.proofs.lemmas.Bool.{cond-true, cond-false, cases_Bool}
 use Rattle.costs.specs.Meaning.{Meaning}
 use Rattle.costs.specs.Lists.{no_cost_from, unless_no_cost, joined, join_answer}
 use Rattle.words.specs.Numbers.{number_of}
-use Rattle.price.specs.Lines.{nothing, largest, without_return, kind_of, read_first, read_costs, costs_answer, kind_answer, words_answer}
+use Rattle.price.specs.declared.answer.Fault.{Fault}
+use Rattle.price.specs.declared.answer.Fault.TheVariants.{Unreadable}
+use Rattle.price.specs.Lines.{FirstUnread, nothing, largest, without_return, kind_of, read_first, read_costs, costs_answer, kind_answer, words_answer}
 
 -- the index that joining answers lies within the list
 module _ (m : Meaning) where
@@ -73,3 +77,8 @@ no_words (w ∷ ws) e = absurd (omega arith)
 pub some_words : (ws : List (List ℕ)) (letter : List ℕ) (costs : List (List ℕ)) (m : Meaning) (r : Result (List ℕ) (List ℕ)) → ws ≡ letter ∷ costs → Some m ≡ kind_of letter → r ≡ read_costs costs → costs_answer m costs r ≡ words_answer ws
 some_words ws letter costs m r e k h =
     ap (costs_answer m costs) h ∙ ap (λ o. kind_answer letter o costs) k ∙ ap words_answer (sym e)
+
+-- the word that is no number, as a fault
+pub unread : (ws : List (List ℕ)) (w : Bor (List ℕ)) (o : Option ℕ) (f : Fault) → o ≡ None → read_costs ws ≡ Err w.now → Err f ≡ ok_or o (Unreadable w) → FirstUnread ws f
+unread ws w None f none stop e = let same : f ≡ Unreadable w = cc in subst (FirstUnread ws) (sym same) stop
+unread ws w (Some n) f none stop e = let z : ◌≡◌ {A = ℕ} 0 1 = cc in absurd (omega arith)
