@@ -1,5 +1,5 @@
 -- What a line comes to.
-use Rattle.std.specs.Prelude.{◌≡◌, ℕ, ◌-◌, ◌^◌, ◌<◌, cond, List, [], ◌∷◌, ◌++◌, map, length, take, Some, None, Ok, Err, vec_items, decimal, Option, Result, ◌==◌, slice_index, slice_index_or}
+use Rattle.std.specs.Prelude.{◌≡◌, ℕ, ◌-◌, ◌^◌, ◌<◌, cond, List, [], ◌∷◌, ◌++◌, map, length, take, Some, None, Ok, Err, decimal, Option, Result, ◌==◌, slice_index, slice_index_or}
 use Rattle.std.specs.Option.{option_map}
 use Rattle.costs.specs.Meaning.{Meaning}
 use Rattle.costs.specs.Lists.{join_answer}

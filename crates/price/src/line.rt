@@ -1,5 +1,5 @@
 // Reading a line: a kind's letter, and then costs of that kind.
-ghost use Rattle.std.specs.Prelude.{◌≡◌, map, Ok, IfSome, MatchResult};
+ghost use Rattle.std.specs.Prelude.{◌≡◌, ◌<◌, map, length, Ok, IfOk, IfErr, IfSome, MatchResult};
 ghost use Rattle.std.specs.Option.{option_map};
 ghost use Rattle.costs.specs.Lists.{join_answer};
 ghost use Rattle.costs.specs.Names.{meaning_of};
@@ -17,10 +17,7 @@ const LARGEST: u64 = 4_294_967_295;
 fn without_return(line: &[u8]) -> &[u8]
     ensures { result.now ≡ without_return line.now }
 {
-    let [front @ .., last] = line else {
-        return line;
-    };
-    if *last == b'\r' { front } else { line }
+    line.strip_suffix(b"\r").unwrap_or(line)
 }
 
 // The kind whose letter the word is.
@@ -35,7 +32,8 @@ fn kind_named(word: &[u8]) -> Option<KindName>
 
 // The words' numbers, or the first word that is no number.
 fn numbers<'a>(heap: Global, words: &[&'a [u8]]) -> Result<Vec<u32>, Fault<'a>>
-    ensures { MatchResult result (λ ns. read_costs (map (λ x. x.now) words.now) ≡ Ok ns.items) (FirstUnread (map (λ x. x.now) words.now)) }
+    ensures read { MatchResult result (λ ns. read_costs (map (λ x. x.now) words.now) ≡ Ok ns.items) (FirstUnread (map (λ x. x.now) words.now)) }
+    ensures one_each { IfOk result (λ ns. length ns.items ≡ length words.now) }
 {
     let mut numbers = Vec::new(heap);
     for word in words {
@@ -47,7 +45,8 @@ fn numbers<'a>(heap: Global, words: &[&'a [u8]]) -> Result<Vec<u32>, Fault<'a>>
 
 // The numbers joined under the kind, or the index of the first that is no cost.
 fn joined(kind: KindName, numbers: &[u32]) -> Result<u32, usize>
-    ensures { result ≡ join_answer (meaning_of kind) numbers.now }
+    ensures value { result ≡ join_answer (meaning_of kind) numbers.now }
+    ensures within { IfErr result (λ i. i < length numbers.now) }
 {
     match kind {
         KindName::Points => join_all::<Points>(numbers),
@@ -70,6 +69,7 @@ fn words_answer<'a>(heap: Global, words: &[&'a [u8]]) -> Answer<'a>
 }
 
 // What the line comes to.
+#[tactic(auto, using(crate::proofs::Written::reads_written))]
 pub fn answer<'a>(heap: Global, line: &'a [u8]) -> Answer<'a>
     ensures made { IfSome (answer_of result) (λ a. a ≡ line_answer line.now) }
     ensures reads_written { ReadsWritten }

@@ -32,6 +32,7 @@ fn push_answer(heap: Global, out: &mut Vec<u8>, answer: Answer<'_>) -> Result<()
 }
 
 // What is printed for the whole input.
+#[tactic(auto, using(crate::proofs::Printing::line_by_line))]
 pub fn report(heap: Global, input: &[u8]) -> Result<Vec<u8>, AllocError>
     ensures made { IfOk result (λ v. v.items ≡ report_of input.now) }
     ensures line_by_line { LineByLine }
