@@ -10,10 +10,10 @@ returns-clause-made g c =
     let bs = c.args.bytes.now in
     rw (pieces_split sep bs)
     (map_from_collect _ c.collect.ensures.ran
-      (YieldsList-from_filter _ is_some_run
-        (YieldsList-at c.filter.ensures.source (YieldsList-from_slice_split _ sep bs c.split.ensures.rest c.split.ensures.done c.split.ensures.closure (λ x r q k. search (rules, tests))))
-        c.filter.ensures.closure
-        (λ x r q k. search (rules, tests))))
+    (YieldsList-from_filter _ is_some_run
+    (YieldsList-at c.filter.ensures.source (YieldsList-from_slice_split _ sep bs c.split.ensures.rest c.split.ensures.done c.split.ensures.closure (λ x r q k. search (rules, tests))))
+    c.filter.ensures.closure
+    (λ x r q k. search (rules, tests))))
 
 pub returns-clause-cuts : goal.returns-clause-cuts
 returns-clause-cuts g c = cuts_apart g.S.Separator.separates
