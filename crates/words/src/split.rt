@@ -11,6 +11,7 @@ fn strip<'a>(bytes: &'a [u8], mark: &[u8]) -> Option<&'a [u8]>
 }
 
 // What stands before the first mark, and what follows it.
+#[tactic(auto, using(crate::proofs::Splitting::rejoins))]
 pub fn split_once<'a>(bytes: &'a [u8], mark: &[u8]) -> Option<(&'a [u8], &'a [u8])>
     ensures value { option_map parts_of result ≡ split_of mark.now bytes.now }
     ensures rejoins { Rejoins }

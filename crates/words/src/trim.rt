@@ -11,7 +11,7 @@ fn trim_front<'a, S: Separator>(bytes: &'a [u8]) -> &'a [u8]
     let mut rest = bytes;
     while let [first, after @ ..] = rest {
         if !S::is_separator(*first) {
-            return rest;
+            break;
         }
         rest = after;
     }
@@ -25,7 +25,7 @@ fn trim_back<'a, S: Separator>(bytes: &'a [u8]) -> &'a [u8]
     let mut rest = bytes;
     while let [before @ .., last] = rest {
         if !S::is_separator(*last) {
-            return rest;
+            break;
         }
         rest = before;
     }
@@ -33,6 +33,7 @@ fn trim_back<'a, S: Separator>(bytes: &'a [u8]) -> &'a [u8]
 }
 
 // The bytes without the separators at their ends.
+#[tactic(auto, using(crate::proofs::Trimming::same_pieces), unfolding(crate::specs::Trims::trimmed_of))]
 pub fn trimmed<'a, S: Separator>(bytes: &'a [u8]) -> &'a [u8]
     ensures value { result.now ≡ trimmed_of S.Separator.separates bytes.now }
     ensures same_pieces { SamePieces S.Separator.separates }
