@@ -4,7 +4,7 @@ ghost use Rattle.words.specs.Pieces.{ended, pieces_of, spacing, newline, Cutting
 
 use std::alloc::{AllocError, Global};
 
-// What bytes are cut at.
+// What bytes are cut at. A trait and no closure, so that a caller's contract names the test itself.
 pub trait Separator {
     ghost separates: { ℕ → Bool };
 
@@ -35,7 +35,6 @@ impl Separator for Newline {
 }
 
 // The longest runs of bytes that are no separators, in their order.
-#[tactic(auto, using(crate::proofs::Cutting::cuts_apart))]
 pub fn pieces<'a, S: Separator>(heap: Global, bytes: &'a [u8]) -> Result<Vec<&'a [u8]>, AllocError>
     ensures made { IfOk result (λ v. map (λ x. x.now) v.items ≡ pieces_of S.Separator.separates bytes.now) }
     ensures cuts { CuttingLaws S.Separator.separates }

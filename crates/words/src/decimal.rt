@@ -36,6 +36,7 @@ pub fn numbers<const N: usize>(words: &[&[u8]], most: [u64; N]) -> Option<[u64; 
     if words.len() != N {
         return None;
     }
+    // a loop and no `array::try_from_fn`, which asks its caller that the items of an iterator fit the memory
     let mut found = [0; N];
     for (i, word) in words.iter().enumerate() {
         found[i] = number(word, most[i])?;
