@@ -1,8 +1,8 @@
--- Joining a list of costs: onto what came before, cut anywhere, and one number at a time.
-use Rattle.std.proofs.Common.{◌≡◌, ℕ, suc, ◌<◌, false, List, [], ◌∷◌, ◌++◌, length, get_or, drop, Some, sym, refl, ap, ◌∙◌, drop-cons}
-use Rattle.std.proofs.lemmas.Bool.{cond-true, cond-false}
+-- Joining a list of costs: onto what came before, and cut anywhere; the worked examples.
+use Rattle.std.proofs.Common.{◌≡◌, ℕ, List, [], ◌∷◌, ◌++◌, sym, refl, ap, ◌∙◌}
 use Rattle.costs.specs.Meaning.{Meaning, Lawful, Cost}
-use Rattle.costs.specs.Lists.{Costs, joined_onto, joined, no_cost_from, CutAnywhere}
+use Rattle.costs.specs.Examples.{JoiningExamples}
+use Rattle.costs.specs.Lists.{Costs, joined_onto, joined, CutAnywhere}
 
 -- two lists on end
 pub joined_append : (m : Meaning) (a : ℕ) (xs ys : List ℕ) → joined_onto m a (xs ++ ys) ≡ joined_onto m (joined_onto m a xs) ys
@@ -33,13 +33,6 @@ module _ {m : Meaning} (laws : Lawful m) where
   pub cut_anywhere : CutAnywhere m
   cut_anywhere xs ys h k = joined_append m m.free xs ys ∙ onto_total (joined m xs) ys (joined_cost xs h) k
 
--- one number of the list
-module _ (m : Meaning) (xs : List ℕ) (i : ℕ) (within : i < length xs) where
-  pub onto_next : (a : ℕ) → joined_onto m (m.join a (get_or xs i 0)) (drop (suc i) xs) ≡ joined_onto m a (drop i xs)
-  onto_next a = sym (ap (joined_onto m a) (drop-cons xs i 0 within))
-
-  pub no_cost_next : Cost m (get_or xs i 0) → no_cost_from m (suc i) (drop (suc i) xs) ≡ no_cost_from m i (drop i xs)
-  no_cost_next h = sym (ap (no_cost_from m i) (drop-cons xs i 0 within) ∙ cond-true _ _ _ h)
-
-  pub no_cost_here : m.is_cost (get_or xs i 0) ≡ false → no_cost_from m i (drop i xs) ≡ Some i
-  no_cost_here h = ap (no_cost_from m i) (drop-cons xs i 0 within) ∙ cond-false _ _ _ h
+-- the worked examples
+pub worked : JoiningExamples
+worked = record { full_seconds = refl; no_rank = refl; last_rank = refl; too_many_breaches = refl; last_sum = refl; first_worst = refl }

@@ -2,12 +2,14 @@
 #![tactic(auto)]
 
 mod kind;
+mod kind_name;
 mod list;
 mod points;
 mod rank;
 mod severity;
 
 pub use kind::Kind;
+pub use kind_name::{KindName, UnknownLetter};
 pub use list::join_all;
 pub use points::Points;
 pub use rank::Rank;

@@ -1,5 +1,6 @@
 // Examples of the three kinds at their limits, and of joining lists.
 use crate::kind::Kind;
+use crate::kind_name::{KindName, UnknownLetter};
 use crate::list::join_all;
 use crate::points::Points;
 use crate::rank::Rank;
@@ -62,6 +63,17 @@ fn rank_has_costs_up_to_4094_breaches(rt: HostRuntime) {
     assert!(rt; !Rank::is_cost(4_293_918_720));
     assert!(rt; !Rank::is_cost(4_294_967_294));
     assert!(rt; Rank::is_cost(WORST));
+}
+
+#[test]
+fn letters_name_kinds(rt: HostRuntime) {
+    assert_eq!(rt; KindName::try_from('P'), Ok(KindName::Points));
+    assert_eq!(rt; KindName::try_from('S'), Ok(KindName::Severity));
+    assert_eq!(rt; KindName::try_from('R'), Ok(KindName::Rank));
+    assert_eq!(rt; KindName::try_from('p'), Err(UnknownLetter('p')));
+    assert_eq!(rt; KindName::Points.letter(), 'P');
+    assert_eq!(rt; KindName::Severity.letter(), 'S');
+    assert_eq!(rt; KindName::Rank.letter(), 'R');
 }
 
 #[test]

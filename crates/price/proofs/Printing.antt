@@ -1,28 +1,23 @@
 -- Adding to what is printed.
-use Rattle.std.proofs.Common.{◌≡◌, ℕ, ◌+◌, ◌<◌, ◌≤◌, List, [], ◌∷◌, ◌++◌, length, get_or, drop, sym, refl, ap, ◌∙◌, append_assoc, append-nil}
+use Rattle.std.proofs.Common.{◌≡◌, ℕ, ◌+◌, ◌<◌, List, [], ◌∷◌, ◌++◌, length, get_or, drop, Some, None, Option, IfSome, IsSomeAnd, sym, refl, ap, ◌∙◌, append_assoc, append-nil}
 use Rattle.std.specs.List.{flat_map}
-use Rattle.std.proofs.lemmas.List.{drop_more, drop_all}
+use Rattle.std.proofs.lemmas.List.{drop_more}
 use Rattle.words.specs.Pieces.{newline, pieces_of, NoSeparator}
-use Rattle.price.specs.Report.{line_printed, report_of, LineByLine}
+use Rattle.price.specs.Lines.{LineAnswer, line_answer}
+use Rattle.price.specs.Report.{printed, line_printed, report_of, LineByLine}
 use Rattle.words.proofs.Cutting.{cuts_apart}
 
--- three parts added one after another
-pub three_parts : (out a b c x y z : List ℕ) → x ≡ out ++ a → y ≡ x ++ b → z ≡ y ++ c → z ≡ out ++ (a ++ (b ++ c))
-three_parts out a b c x y z one two three =
-    three
-    ∙ ap (λ l. l ++ c) (two ∙ ap (λ l. l ++ b) one)
-    ∙ append_assoc (out ++ a) b c
-    ∙ append_assoc out a (b ++ c)
+-- what was printed of an outcome that is the line's answer
+pub appended : (out new line : List ℕ) (o : Option LineAnswer) → IfSome o (λ a. a ≡ line_answer line) → IsSomeAnd o (λ a. new ≡ out ++ printed a) → new ≡ out ++ line_printed line
+appended out new line None is made = absurd made
+appended out new line (Some a) is made = made ∙ ap (λ b. out ++ printed b) is
 
--- one line more, and the end of the lines
+-- one line more
 module _ (lines : List (List ℕ)) (i : ℕ) (out : List ℕ) where
   pub line_next : i < length lines → (out ++ line_printed (get_or lines i [])) ++ flat_map line_printed (drop (i + 1) lines) ≡ out ++ flat_map line_printed (drop i lines)
   line_next within =
       append_assoc out (line_printed (get_or lines i [])) (flat_map line_printed (drop (i + 1) lines))
       ∙ ap (λ ls. out ++ flat_map line_printed ls) (sym (drop_more lines i [] within))
-
-  pub lines_end : length lines ≤ i → out ++ flat_map line_printed (drop i lines) ≡ out
-  lines_end past = ap (λ ls. out ++ flat_map line_printed ls) (drop_all i lines past) ∙ append-nil out
 
 -- the laws
 joined_append : (xs ys : List (List ℕ)) → flat_map line_printed (xs ++ ys) ≡ flat_map line_printed xs ++ flat_map line_printed ys

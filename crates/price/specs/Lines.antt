@@ -1,16 +1,14 @@
 -- What a line comes to.
-use Rattle.std.specs.Prelude.{◌≡◌, ℕ, ◌-◌, ◌^◌, ◌<◌, cond, List, [], ◌∷◌, ◌++◌, map, length, take, Some, None, Ok, Err, vec_items, decimal, Option, Result, ◌==◌, slice_index, slice_index_or}
+use Rattle.std.specs.Prelude.{◌≡◌, ℕ, ◌-◌, ◌^◌, ◌<◌, cond, List, [], ◌∷◌, ◌++◌, map, length, take, Some, None, Ok, Err, decimal, Option, Result, ◌==◌, slice_index, slice_index_or}
+use Rattle.std.specs.Option.{option_map}
 use Rattle.costs.specs.Meaning.{Meaning}
 use Rattle.costs.specs.Lists.{join_answer}
-use Rattle.costs.specs.Kinds.{points, severity, rank}
+use Rattle.costs.specs.Names.{meaning_of, letter_of, named_by}
 use Rattle.words.specs.Numbers.{number_of}
 use Rattle.words.specs.Pieces.{spacing, pieces_of}
-use Rattle.price.specs.declared.answer.Answer.{Answer}
-use Rattle.price.specs.declared.answer.Answer.TheVariants.{Nothing, Total, NoCost, Unreadable}
-use Rattle.price.specs.declared.line.Named.{Named}
-use Rattle.price.specs.declared.line.Named.TheVariants as named
-use Rattle.price.specs.declared.line.Costs.{Costs}
-use Rattle.price.specs.declared.line.Costs.TheVariants as read
+use Rattle.price.specs.declared.answer.Total.{Total}
+use Rattle.price.specs.declared.answer.Fault.{Fault}
+use Rattle.price.specs.declared.answer.Fault.TheVariants.{NoCost, Unreadable, OutOfMemory}
 
 -- What a line comes to; words are their bytes.
 pub data LineAnswer : Type 0 where
@@ -33,7 +31,7 @@ words_of line = pieces_of spacing (without_return line)
 
 -- the kind that has the letter
 abbrev pub kind_with_letter : ℕ → Option Meaning
-kind_with_letter l = cond (l == points.letter) (Some points) (cond (l == severity.letter) (Some severity) (cond (l == rank.letter) (Some rank) None))
+kind_with_letter l = option_map meaning_of (named_by l)
 
 -- the kind whose letter the word is: a word of one byte
 abbrev pub kind_of : List ℕ → Option Meaning
@@ -99,18 +97,16 @@ abbrev pub ReadsWritten : Type 0
 ReadsWritten =
     (l : ℕ) (m : Meaning) → kind_with_letter l ≡ Some m → (xs : List ℕ) → Of32Bits xs → line_answer (l ∷ written_costs xs) ≡ joined_answer m (map decimal xs) xs
 
--- What the code's values stand for: an answer with bytes in place of references, a kind's meaning, the numbers read.
-abbrev pub answer_of : Answer → LineAnswer
-answer_of Nothing = nothing
-answer_of (Total l t) = total l t
-answer_of (NoCost w) = no_cost w.now
-answer_of (Unreadable w) = unreadable w.now
+-- What a line's outcome stands for, with bytes in place of references; nothing where memory did not suffice.
+abbrev pub answer_of : Result (Option Total) Fault → Option LineAnswer
+answer_of (Ok None) = Some nothing
+answer_of (Ok (Some t)) = Some (total (letter_of t.kind) t.cost)
+answer_of (Err (NoCost w)) = Some (no_cost w.now)
+answer_of (Err (Unreadable w)) = Some (unreadable w.now)
+answer_of (Err OutOfMemory) = None
 
-abbrev pub meaning_of : Named → Meaning
-meaning_of named.Points = points
-meaning_of named.Severity = severity
-meaning_of named.Rank = rank
-
-abbrev pub numbers_of : Costs → Result (List ℕ) (List ℕ)
-numbers_of (read.Numbers v) = Ok (vec_items v)
-numbers_of (read.Unreadable w) = Err w.now
+-- the fault is the first word that is no number, or memory that did not suffice
+abbrev pub FirstUnread : List (List ℕ) → Fault → Type 0
+FirstUnread ws (NoCost w) = ⊥
+FirstUnread ws (Unreadable w) = read_costs ws ≡ Err w.now
+FirstUnread ws OutOfMemory = Unit {0}

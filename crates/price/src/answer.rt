@@ -1,12 +1,55 @@
 // What a line comes to.
+ghost use Rattle.std.specs.Prelude.{◌≡◌, ◌++◌, Some, codes, decimal};
+ghost use Rattle.std.proofs.Math.Utf8.{encode};
+ghost use Rattle.costs.specs.Names.{letter_of};
+ghost use Rattle.price.specs.declared.answer.Fault.TheVariants.{OutOfMemory};
+
+use costs::KindName;
+use std::alloc::{AllocError, AllocFailed};
+use std::fmt;
+
+// What the costs of a line make, joined.
 #[derive(Clone, Copy)]
-pub enum Answer<'a> {
-    // the line has no words
-    Nothing,
-    // the kind's letter, and what the costs make, joined
-    Total(char, u32),
+pub struct Total {
+    pub kind: KindName,
+    pub cost: u32,
+}
+
+// Why a line has no total.
+#[derive(Clone, Copy)]
+pub enum Fault<'a> {
     // the first number that is no cost of the kind, as it was written
     NoCost(&'a [u8]),
     // the first word that cannot be read, as it was written
     Unreadable(&'a [u8]),
+    // memory did not suffice
+    OutOfMemory,
+}
+
+// What a line comes to: a total, nothing where it has no words, or a fault.
+pub type Answer<'a> = Result<Option<Total>, Fault<'a>>;
+
+impl fmt::Display for Total {
+    ghost output = { λ t. Some (encode (letter_of t.kind) ++ (codes " " ++ decimal t.cost)) };
+
+    fn fmt<W: fmt::Write>(&self, f: &mut fmt::Formatter<W>) -> fmt::Result {
+        let letter = self.kind.letter();
+        write!(f, "{letter} {}", self.cost)
+    }
+}
+
+impl From<AllocError> for Fault<'_> {
+    ghost from_gives = { λ _ fault. fault ≡ OutOfMemory };
+
+    fn from(_e: AllocError) -> Self {
+        Fault::OutOfMemory
+    }
+}
+
+impl<T: Drop> From<AllocFailed<T>> for Fault<'_> {
+    ghost from_gives = { λ _ fault. fault ≡ OutOfMemory };
+
+    fn from(_e: AllocFailed<T>) -> Self {
+        Fault::OutOfMemory
+    }
 }

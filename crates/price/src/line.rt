@@ -1,116 +1,77 @@
 // Reading a line: a kind's letter, and then costs of that kind.
-ghost use Rattle.std.specs.Prelude.{◌≡◌, map, length, IfOk};
+ghost use Rattle.std.specs.Prelude.{◌≡◌, ◌<◌, map, length, Ok, IfOk, IfErr, IfSome, MatchResult};
 ghost use Rattle.std.specs.Option.{option_map};
-ghost use Rattle.price.specs.Lines.{without_return, meaning_of, kind_of, numbers_of, read_costs, answer_of, joined_answer, words_answer, line_answer, ReadsWritten};
+ghost use Rattle.costs.specs.Lists.{join_answer};
+ghost use Rattle.costs.specs.Names.{meaning_of};
+ghost use Rattle.price.specs.Lines.{without_return, kind_of, read_costs, FirstUnread, answer_of, words_answer, line_answer, ReadsWritten};
 
-use crate::answer::Answer;
-use costs::{Kind, Points, Rank, Severity, join_all};
-use std::alloc::{AllocError, Global};
+use crate::answer::{Answer, Fault, Total};
+use costs::{KindName, Points, Rank, Severity, join_all};
+use std::alloc::Global;
 use words::{Spacing, number, pieces};
 
 // The largest number that a cost is written as.
 const LARGEST: u64 = 4_294_967_295;
 
-// A kind, as its letter names it.
-#[derive(Clone, Copy)]
-enum Named {
-    Points,
-    Severity,
-    Rank,
-}
-
-// The costs of a line as numbers, or the first word that is no number.
-#[derive(Drop)]
-enum Costs<'a> {
-    Numbers(Vec<u32>),
-    Unreadable(&'a [u8]),
-}
-
 // The line without a carriage return at its end.
 fn without_return(line: &[u8]) -> &[u8]
     ensures { result.now ≡ without_return line.now }
 {
-    let [front @ .., last] = line else {
-        return line;
-    };
-    if *last == b'\r' { front } else { line }
+    line.strip_suffix(b"\r").unwrap_or(line)
 }
 
 // The kind whose letter the word is.
-fn kind_named(word: &[u8]) -> Option<Named>
+fn kind_named(word: &[u8]) -> Option<KindName>
     ensures { option_map meaning_of result ≡ kind_of word.now }
 {
     let [byte] = word else {
         return None;
     };
-    let letter = char::from(*byte);
-    if letter == Points::letter() {
-        Some(Named::Points)
-    } else if letter == Severity::letter() {
-        Some(Named::Severity)
-    } else if letter == Rank::letter() {
-        Some(Named::Rank)
-    } else {
-        None
-    }
+    KindName::try_from(char::from(*byte)).ok()
 }
 
 // The words' numbers, or the first word that is no number.
-fn numbers<'a>(heap: Global, words: &[&'a [u8]]) -> Result<Costs<'a>, AllocError>
-    ensures { IfOk result (λ c. numbers_of c ≡ read_costs (map (λ x. x.now) words.now)) }
+fn numbers<'a>(heap: Global, words: &[&'a [u8]]) -> Result<Vec<u32>, Fault<'a>>
+    ensures read { MatchResult result (λ ns. read_costs (map (λ x. x.now) words.now) ≡ Ok ns.items) (FirstUnread (map (λ x. x.now) words.now)) }
+    ensures one_each { IfOk result (λ ns. length ns.items ≡ length words.now) }
 {
     let mut numbers = Vec::new(heap);
     for word in words {
-        match number(word, LARGEST) {
-            Some(n) => numbers.push(n as u32)?,
-            None => return Ok(Costs::Unreadable(word)),
-        }
+        let n = number(word, LARGEST).ok_or(Fault::Unreadable(word))?;
+        numbers.push(n as u32)?;
     }
-    Ok(Costs::Numbers(numbers))
+    Ok(numbers)
 }
 
-// What the numbers make, joined, or the first word whose number is no cost.
-fn joined<'a, K: Kind>(words: &[&'a [u8]], numbers: &[u32]) -> Answer<'a>
-    requires { length words.now ≡ length numbers.now }
-    ensures { answer_of result ≡ joined_answer K.meaning (map (λ x. x.now) words.now) numbers.now }
-{
-    match join_all::<K>(numbers) {
-        Ok(total) => Answer::Total(K::letter(), total),
-        Err(i) => Answer::NoCost(words[i]),
-    }
-}
-
-// The same under the kind that was named.
-fn joined_under<'a>(kind: Named, words: &[&'a [u8]], numbers: &[u32]) -> Answer<'a>
-    requires { length words.now ≡ length numbers.now }
-    ensures { answer_of result ≡ joined_answer (meaning_of kind) (map (λ x. x.now) words.now) numbers.now }
+// The numbers joined under the kind, or the index of the first that is no cost.
+fn joined(kind: KindName, numbers: &[u32]) -> Result<u32, usize>
+    ensures value { result ≡ join_answer (meaning_of kind) numbers.now }
+    ensures within { IfErr result (λ i. i < length numbers.now) }
 {
     match kind {
-        Named::Points => joined::<Points>(words, numbers),
-        Named::Severity => joined::<Severity>(words, numbers),
-        Named::Rank => joined::<Rank>(words, numbers),
+        KindName::Points => join_all::<Points>(numbers),
+        KindName::Severity => join_all::<Severity>(numbers),
+        KindName::Rank => join_all::<Rank>(numbers),
     }
 }
 
 // What a line of these words comes to.
-fn words_answer<'a>(heap: Global, words: &[&'a [u8]]) -> Result<Answer<'a>, AllocError>
-    ensures { IfOk result (λ a. answer_of a ≡ words_answer (map (λ x. x.now) words.now)) }
+fn words_answer<'a>(heap: Global, words: &[&'a [u8]]) -> Answer<'a>
+    ensures { IfSome (answer_of result) (λ a. a ≡ words_answer (map (λ x. x.now) words.now)) }
 {
     let Some((letter, costs)) = words.split_first() else {
-        return Ok(Answer::Nothing);
+        return Ok(None);
     };
-    let Some(kind) = kind_named(letter) else {
-        return Ok(Answer::Unreadable(letter));
-    };
-    match numbers(heap, costs)? {
-        Costs::Numbers(numbers) => Ok(joined_under(kind, costs, numbers.as_slice())),
-        Costs::Unreadable(word) => Ok(Answer::Unreadable(word)),
-    }
+    let kind = kind_named(letter).ok_or(Fault::Unreadable(letter))?;
+    let numbers = numbers(heap, costs)?;
+    let cost = joined(kind, numbers.as_slice()).map_err(|i| Fault::NoCost(costs[i]))?;
+    Ok(Some(Total { kind, cost }))
 }
 
 // What the line comes to.
-pub fn answer<'a>(heap: Global, line: &'a [u8]) -> Result<Answer<'a>, AllocError>
-    ensures made { IfOk result (λ a. answer_of a ≡ line_answer line.now) }
+#[tactic(auto, using(crate::proofs::Written::reads_written))]
+pub fn answer<'a>(heap: Global, line: &'a [u8]) -> Answer<'a>
+    ensures made { IfSome (answer_of result) (λ a. a ≡ line_answer line.now) }
     ensures reads_written { ReadsWritten }
 {
     let words = pieces::<Spacing>(heap, without_return(line))?;

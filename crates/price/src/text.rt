@@ -1,9 +1,9 @@
 // What is printed for lines of input.
-ghost use Rattle.std.specs.Prelude.{◌≡◌, ◌++◌, IfOk, OnOk};
+ghost use Rattle.std.specs.Prelude.{◌≡◌, ◌++◌, IfOk, OnOk, IsSomeAnd};
 ghost use Rattle.price.specs.Lines.{answer_of};
 ghost use Rattle.price.specs.Report.{word_line, printed, report_of, LineByLine};
 
-use crate::answer::Answer;
+use crate::answer::{Answer, Fault};
 use crate::line::answer;
 use std::alloc::{AllocError, Global};
 use words::{Newline, pieces};
@@ -20,20 +20,19 @@ fn push_word_line(out: &mut Vec<u8>, label: &[u8], word: &[u8]) -> Result<(), Al
 
 // Adds what is printed of an answer. A number that is no cost of the kind is refusal 10.
 fn push_answer(heap: Global, out: &mut Vec<u8>, answer: Answer<'_>) -> Result<(), AllocError>
-    ensures { OnOk result (out.new.items ≡ out.old.items ++ printed (answer_of answer.entry)) }
+    ensures { OnOk result (IsSomeAnd (answer_of answer.entry) (λ a. out.new.items ≡ out.old.items ++ printed a)) }
 {
     match answer {
-        Answer::Nothing => Ok(()),
-        Answer::Total(letter, total) => {
-            let line = format!(in heap; "{letter} {total}\n")?;
-            out.extend_from_slice(line.as_bytes())
-        }
-        Answer::NoCost(word) => push_word_line(out, b"no 10 ", word),
-        Answer::Unreadable(word) => push_word_line(out, b"unreadable ", word),
+        Ok(None) => Ok(()),
+        Ok(Some(total)) => out.extend_from_slice(format!(in heap; "{total}\n")?.as_bytes()),
+        Err(Fault::NoCost(word)) => push_word_line(out, b"no 10 ", word),
+        Err(Fault::Unreadable(word)) => push_word_line(out, b"unreadable ", word),
+        Err(Fault::OutOfMemory) => Err(AllocError),
     }
 }
 
 // What is printed for the whole input.
+#[tactic(auto, using(crate::proofs::Printing::line_by_line))]
 pub fn report(heap: Global, input: &[u8]) -> Result<Vec<u8>, AllocError>
     ensures made { IfOk result (λ v. v.items ≡ report_of input.now) }
     ensures line_by_line { LineByLine }
@@ -41,7 +40,7 @@ pub fn report(heap: Global, input: &[u8]) -> Result<Vec<u8>, AllocError>
     let lines = pieces::<Newline>(heap, input)?;
     let mut out = Vec::new(heap);
     for line in lines.as_slice() {
-        push_answer(heap, &mut out, answer(heap, line)?)?;
+        push_answer(heap, &mut out, answer(heap, line))?;
     }
     Ok(out)
 }

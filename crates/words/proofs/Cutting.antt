@@ -1,58 +1,51 @@
--- Cutting bytes one after another.
-use Rattle.std.proofs.Common.{◌≡◌, ℕ, ◌+◌, ◌<◌, ◌≤◌, Bool, true, false, List, [], ◌∷◌, ◌++◌, length, get_or, drop, sym, refl, ap, ◌∙◌, ⊎_elim, append_assoc, append-nil, arith}
-use Rattle.std.specs.List.{between}
-use Rattle.std.proofs.lemmas.List.Edits.{between_none, between_more}
-use Rattle.std.proofs.lemmas.List.{drop_more, drop_all}
-use Rattle.std.proofs.lemmas.Bool.{cond-true, cond-false, cases_Bool}
+-- Cutting bytes: the pieces by the library's split, and the laws.
+use Rattle.std.proofs.Common.{◌≡◌, ℕ, Bool, true, not, ◌==◌, List, [], ◌∷◌, ◌++◌, length, sym, refl, ap, ◌∙◌, ⊎_elim, append_assoc, append-nil, arith}
+use Rattle.std.specs.List.{filter, slice_split, onto_first}
+use Rattle.std.proofs.lemmas.Bool.{cond-true, cond-false, cases_Bool, ne_eqb}
 use Rattle.words.specs.Pieces.{ended, pieces_after, pieces_of, NoSeparator, CuttingLaws}
-
-pub ended_some : (run : List ℕ) (ps : List (List ℕ)) → 0 < length run → ended run ps ≡ run ∷ ps
-ended_some [] ps some = absurd (omega arith)
-ended_some (b ∷ run) ps some = refl
 
 ended_apart : (run : List ℕ) (ps : List (List ℕ)) → ended run ps ≡ ended run [] ++ ps
 ended_apart [] ps = refl
 ended_apart (b ∷ run) ps = refl
 
--- the pieces that are left at index i, where the run since start has not ended
-abbrev pub left_from : (ℕ → Bool) → List ℕ → ℕ → ℕ → List (List ℕ)
-left_from sep bs start i = pieces_after sep (between start i bs) (drop i bs)
+-- whether a run has a byte
+abbrev pub is_some_run : List ℕ → Bool
+is_some_run run = not (length run == 0)
 
-module _ (sep : ℕ → Bool) (bs : List ℕ) (start i : ℕ) (within : i < length bs) where
-  -- the byte at i goes on with the run
-  pub run_goes : start ≤ i → sep (get_or bs i 0) ≡ false → left_from sep bs start (i + 1) ≡ left_from sep bs start i
-  run_goes before goes =
-      ap (λ run. pieces_after sep run (drop (i + 1) bs)) (between_more bs start i 0 before within)
-      ∙ sym (ap (pieces_after sep (between start i bs)) (drop_more bs i 0 within) ∙ cond-false _ _ _ goes)
+-- the runs that have a byte
+abbrev kept : List (List ℕ) → List (List ℕ)
+kept ps = filter is_some_run ps
 
-  -- the byte at i ends the run
-  pub run_ends : sep (get_or bs i 0) ≡ true → left_from sep bs start i ≡ ended (between start i bs) [] ++ left_from sep bs (i + 1) (i + 1)
-  run_ends ends =
-      ap (pieces_after sep (between start i bs)) (drop_more bs i 0 within)
-      ∙ cond-true _ _ _ ends
-      ∙ ended_apart (between start i bs) (pieces_after sep [] (drop (i + 1) bs))
-      ∙ ap (λ run. ended (between start i bs) [] ++ pieces_after sep run (drop (i + 1) bs)) (sym (between_none bs (i + 1)))
+ended_kept : (run : List ℕ) (ps : List (List ℕ)) → ended run (kept ps) ≡ kept (run ∷ ps)
+ended_kept [] ps = refl
+ended_kept (b ∷ run) ps = sym (cond-true _ _ _ (ap not (ne_eqb (length (b ∷ run)) 0 (λ e. omega arith))))
 
--- the end of the bytes ends the last run
-pub last_run : (sep : ℕ → Bool) (bs : List ℕ) (start i : ℕ) → i ≡ length bs → left_from sep bs start i ≡ ended (between start (length bs) bs) []
-last_run sep bs start i end =
-    ap (left_from sep bs start) end ∙ ap (pieces_after sep (between start (length bs) bs)) (drop_all (length bs) bs (omega arith))
+-- a run that has begun, in front of the parts that follow
+abbrev onto : List ℕ → List (List ℕ) → List (List ℕ)
+onto run [] = run ∷ []
+onto run (p ∷ ps) = (run ++ p) ∷ ps
 
--- the pieces found and those that are left at index i are all of them
-abbrev pub AllFound : (ℕ → Bool) → List ℕ → List (List ℕ) → ℕ → ℕ → Type 0
-AllFound sep bs ps start i = (start ≤ i) × (ps ++ left_from sep bs start i ≡ pieces_of sep bs)
+onto_none : (ps : List (List ℕ)) → kept (onto [] ps) ≡ kept ps
+onto_none [] = refl
+onto_none (p ∷ ps) = refl
 
-module _ (sep : ℕ → Bool) (bs : List ℕ) (ps : List (List ℕ)) (start i : ℕ) (within : i < length bs) (inv : AllFound sep bs ps start i) where
-  pub goes_on : sep (get_or bs i 0) ≡ false → AllFound sep bs ps start (i + 1)
-  goes_on goes = (omega (arith, inv.0), ap (λ qs. ps ++ qs) (run_goes sep bs start i within inv.0 goes) ∙ inv.1)
+onto_more : (run : List ℕ) (b : ℕ) (ps : List (List ℕ)) → onto (run ++ (b ∷ [])) ps ≡ onto run (onto_first b ps)
+onto_more run b [] = refl
+onto_more run b (p ∷ ps) = ap (λ q. q ∷ ps) (append_assoc run (b ∷ []) p)
 
-  pub ends_there : sep (get_or bs i 0) ≡ true → AllFound sep bs (ps ++ ended (between start i bs) []) (i + 1) (i + 1)
-  ends_there ends = (
-    omega arith,
-    append_assoc ps (ended (between start i bs) []) (left_from sep bs (i + 1) (i + 1))
-        ∙ ap (λ qs. ps ++ qs) (sym (run_ends sep bs start i within ends))
-        ∙ inv.1,
-  )
+-- the pieces are the parts between separators that have a byte
+module _ (sep : ℕ → Bool) where
+  split_after : (run bs : List ℕ) → pieces_after sep run bs ≡ kept (onto run (slice_split sep bs))
+  split_after run [] = ap (λ r. ended r []) (sym (append-nil run)) ∙ ended_kept (run ++ []) []
+  split_after run (b ∷ bs) =
+      let parts = slice_split sep bs in
+      ⊎_elim
+      (λ t. cond-true _ _ _ t ∙ ap (ended run) (split_after [] bs ∙ onto_none parts) ∙ ended_kept run parts ∙ ap (λ r. kept (r ∷ parts)) (sym (append-nil run)) ∙ ap (λ ps. kept (onto run ps)) (sym (cond-true _ _ _ t)))
+      (λ f. cond-false _ _ _ f ∙ split_after (run ++ (b ∷ [])) bs ∙ ap kept (onto_more run b parts) ∙ ap (λ ps. kept (onto run ps)) (sym (cond-false _ _ _ f)))
+      (cases_Bool (sep b))
+
+  pub pieces_split : (bs : List ℕ) → pieces_of sep bs ≡ filter is_some_run (slice_split sep bs)
+  pieces_split bs = split_after [] bs ∙ onto_none (slice_split sep bs)
 
 -- the laws
 ended_append : (run : List ℕ) (ps qs : List (List ℕ)) → ended run (ps ++ qs) ≡ ended run ps ++ qs

@@ -2,7 +2,7 @@
 use Rattle.std.proofs.Common.{◌≡◌, ℕ, ◌+◌, ◌-◌, ◌*◌, ◌^◌, ◌<◌, ◌≤◌, Bool, true, false, cond, ◌&&◌, leb, List, [], ◌∷◌, length, get_or, drop, Some, None, decimal, Option, sym, refl, ap, ◌∙◌, ⊎_elim, arith, rules}
 use Rattle.std.proofs.lemmas.Fmt.{decimal_nonempty, digits_decimal, digits_value-decimal}
 use Rattle.std.proofs.lemmas.Str.Parse.{IsNumeralModel, numerals_by_fold}
-use Rattle.std.proofs.lemmas.List.{drop_more, drop_all}
+use Rattle.std.proofs.lemmas.List.{drop_more}
 use Rattle.std.proofs.lemmas.Bool.{cond-true, cond-false, and_from, and_parts, and_cases, and_left, and_right, lt-ltb, le-leb, lt-leb, leb-true, leb-false}
 use Rattle.words.specs.Numbers.{is_digit, all_digits, read_on, is_number, number_of, after_digit, ReadsBack}
 
@@ -24,31 +24,10 @@ abbrev pub continued : ℕ → ℕ → List ℕ → Option ℕ
 continued limit n bs = cond (all_digits bs && leb (read_on n bs) limit) (Some (read_on n bs)) None
 
 module _ (limit : ℕ) where
-  -- an empty word, and any other
-  pub no_word : (w : List ℕ) → length w ≡ 0 → number_of limit w ≡ None
-  unfolding number_of
-  no_word [] e = refl
-  no_word (b ∷ w) e = absurd (omega arith)
-
+  -- a word with a byte
   pub whole_word : (w : List ℕ) → 0 < length w → continued limit 0 w ≡ number_of limit w
   unfolding number_of
   whole_word w some = ap (λ t. cond (t && (all_digits w && leb (read_on 0 w) limit)) (Some (read_on 0 w)) None) (sym (lt-ltb 0 (length w) some))
-
-  -- one more digit
-  one_digit : (n m b : ℕ) (bs : List ℕ) → after_digit limit n b ≡ Some m → continued limit m bs ≡ continued limit n (b ∷ bs)
-  one_digit n m b bs e =
-      let next = 10 * n + (b - 48) in
-      let some = some_since (is_digit b && leb next limit) next m e in
-      let told = (and_parts (is_digit b) (leb next limit) some.0).0 in
-      ap (λ k. continued limit k bs) (sym some.1)
-      ∙ ap (λ t. cond (t && all_digits bs && leb (read_on next bs) limit) (Some (read_on next bs)) None) (sym told)
-
-  pub digit_fits : (n m b : ℕ) → after_digit limit n b ≡ Some m → m ≤ limit
-  digit_fits n m b e =
-      let next = 10 * n + (b - 48) in
-      let some = some_since (is_digit b && leb next limit) next m e in
-      let small = leb-true next limit (and_parts (is_digit b) (leb next limit) some.0).1 in
-      omega (arith, some.1)
 
   -- no digit, or one that makes the number too large, whatever follows
   no_digit : (n b : ℕ) (bs : List ℕ) → after_digit limit n b ≡ None → continued limit n (b ∷ bs) ≡ None
@@ -63,15 +42,8 @@ module _ (limit : ℕ) where
 
   -- one byte of a word
   module _ (w : List ℕ) (i : ℕ) (within : i < length w) where
-    pub digit_next : (n m : ℕ) → after_digit limit n (get_or w i 0) ≡ Some m → continued limit m (drop (i + 1) w) ≡ continued limit n (drop i w)
-    digit_next n m e = one_digit n m (get_or w i 0) (drop (i + 1) w) e ∙ sym (ap (continued limit n) (drop_more w i 0 within))
-
     pub digit_stop : (n : ℕ) → after_digit limit n (get_or w i 0) ≡ None → continued limit n (drop i w) ≡ None
     digit_stop n e = ap (continued limit n) (drop_more w i 0 within) ∙ no_digit n (get_or w i 0) (drop (i + 1) w) e
-
-  -- the end of a word
-  pub digits_end : (w : List ℕ) (i n : ℕ) → length w ≤ i → n ≤ limit → continued limit n (drop i w) ≡ Some n
-  digits_end w i n past small = ap (continued limit n) (drop_all i w past) ∙ cond-true _ _ _ (le-leb n limit small)
 
 -- what a number is written as
 own : IsNumeralModel (λ ds. all_digits ds ≡ true) (read_on 0)

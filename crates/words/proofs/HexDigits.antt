@@ -1,9 +1,9 @@
 -- Hexadecimal digits read one after another.
-use Rattle.std.proofs.Common.{◌≡◌, ℕ, ◌+◌, ◌-◌, ◌*◌, ◌/◌, ◌%◌, ◌^◌, ◌<◌, ◌≤◌, List, [], ◌∷◌, ◌++◌, length, get_or, take, drop, Some, None, Option, sym, refl, ap, ◌∙◌, append_assoc, pow-suc, add-one, arith}
+use Rattle.std.proofs.Common.{◌≡◌, ℕ, ◌+◌, ◌-◌, ◌*◌, ◌/◌, ◌%◌, ◌^◌, ◌<◌, ◌≤◌, List, [], ◌∷◌, ◌++◌, length, get_or, take, drop, Some, None, Option, sym, refl, ap, ◌∙◌, append_assoc, arith}
 use native.Mathlib.Nat.{pow-le-pow_right}
 use Rattle.std.specs.List.{flat_map}
-use Rattle.std.proofs.lemmas.List.{drop_more, drop_all, take_rest}
-use Rattle.std.proofs.lemmas.Bool.{cond-true, cond-false, and_from, and_left, and_right, le-leb, lt-leb}
+use Rattle.std.proofs.lemmas.List.{drop_more, take_rest}
+use Rattle.std.proofs.lemmas.Bool.{cond-true, and_from, le-leb}
 use Rattle.std.proofs.lemmas.Bool.Decides.{nat_tests}
 use Rattle.words.specs.Hex.{hex_value, hex_pair, then_digit, byte_before, bytes_of, hex_on, hex_number_of, hex_digit_of, written_byte, NumberReadsBack, BytesReadBack}
 
@@ -11,14 +11,11 @@ use Rattle.words.specs.Hex.{hex_value, hex_pair, then_digit, byte_before, bytes_
 pub digit_below : (b d : ℕ) → hex_value b ≡ Some d → d < 16
 digit_below b d e = grind (arith, nat_tests)
 
--- a number of i digits, and one digit more
+-- a number of i digits has room for one more
 pub fits_digit : (n i : ℕ) → n < 16 ^ i → i < 4 → n * 16 + 15 < 2 ^ 16
 fits_digit n i small few =
     let three : i ≤ 3 = omega arith in
     omega (arith, pow-le-pow_right {n = 16} (omega arith) three)
-
-pub digit_more : (n i d : ℕ) → n < 16 ^ i → d < 16 → n * 16 + d < 16 ^ (i + 1)
-digit_more n i d small low = rw (add-one, pow-suc) (omega arith)
 
 -- bytes that were read, before what is read after them
 abbrev pub after : List ℕ → Option (List ℕ) → Option (List ℕ)
@@ -45,32 +42,16 @@ none_on (b ∷ bs) = none_on bs
 
 -- one byte of a word
 module _ (w : List ℕ) (i : ℕ) (within : i < length w) (n : ℕ) where
-  pub hex_next : (d : ℕ) → hex_value (get_or w i 0) ≡ Some d → hex_on (Some (n * 16 + d)) (drop (i + 1) w) ≡ hex_on (Some n) (drop i w)
-  hex_next d e =
-      ap (λ o. hex_on (then_digit (Some n) o) (drop (i + 1) w)) (sym e) ∙ sym (ap (hex_on (Some n)) (drop_more w i 0 within))
-
   pub hex_stop : hex_value (get_or w i 0) ≡ None → hex_on (Some n) (drop i w) ≡ None
   hex_stop e =
       ap (hex_on (Some n)) (drop_more w i 0 within)
       ∙ ap (λ o. hex_on (then_digit (Some n) o) (drop (i + 1) w)) e
       ∙ none_on (drop (i + 1) w)
 
--- the end of a word
-pub hex_end : (w : List ℕ) (i n : ℕ) → length w ≤ i → hex_on (Some n) (drop i w) ≡ Some n
-hex_end w i n past = ap (hex_on (Some n)) (drop_all i w past)
-
 -- a word of one to four bytes
 pub hex_whole : (w : List ℕ) → 1 ≤ length w → length w ≤ 4 → hex_on (Some 0) w ≡ hex_number_of w
 unfolding hex_number_of
 hex_whole w some few = sym (cond-true _ _ _ (and_from _ _ (le-leb 1 (length w) some) (le-leb (length w) 4 few)))
-
-pub hex_none : (w : List ℕ) → length w ≡ 0 → hex_number_of w ≡ None
-unfolding hex_number_of
-hex_none w none = cond-false _ _ _ (and_left _ _ (lt-leb 1 (length w) (omega arith)))
-
-pub hex_many : (w : List ℕ) → 4 < length w → hex_number_of w ≡ None
-unfolding hex_number_of
-hex_many w many = cond-false _ _ _ (and_right _ _ (lt-leb (length w) 4 (omega arith)))
 
 -- a digit that is written reads back
 digit_back : (v : ℕ) → v < 16 → hex_value (hex_digit_of v) ≡ Some v

@@ -1,7 +1,7 @@
 -- Bytes split at a mark.
-use Rattle.std.proofs.Common.{◌≡◌, ℕ, ◌+◌, ◌<◌, ◌≤◌, eqb, List, [], ◌∷◌, ◌++◌, length, get_or, take, drop, Some, None, Option, sym, refl, ap, ◌∙◌, ⊎_elim, arith, Bor, MatchOption}
+use Rattle.std.proofs.Common.{◌≡◌, ℕ, ◌+◌, ◌<◌, eqb, List, [], ◌∷◌, ◌++◌, length, get_or, take, drop, Some, None, Option, sym, refl, ap, ◌∙◌, ⊎_elim, arith, Bor, MatchOption}
 use Rattle.std.specs.Option.{option_map}
-use Rattle.std.proofs.lemmas.List.{append_assoc, append-nil, drop_more, drop_all, take_more}
+use Rattle.std.proofs.lemmas.List.{append_assoc, append-nil, drop_more, take_more}
 use Rattle.std.proofs.lemmas.Bool.{cond-true, cond-false, cases_Bool, eq-eqb, eqb-true}
 use Rattle.words.specs.Splits.{after_mark, longer, split_here, split_of, Rejoins}
 
@@ -59,10 +59,6 @@ module _ (mark bs : List ℕ) (i : ℕ) where
   mark_here within back some =
       ap (longer_by (take i bs)) (here within ∙ ap (λ o. split_here (get_or bs i 0) o (split_of mark (drop (i + 1) bs))) some)
       ∙ ap (λ l. Some (l, back)) (append-nil (take i bs))
-
-  -- the end of the bytes
-  pub mark_nowhere : length bs ≤ i → longer_by (take i bs) (split_of mark (drop i bs)) ≡ None
-  mark_nowhere past = ap (λ l. longer_by (take i bs) (split_of mark l)) (drop_all i bs past)
 
 -- the law
 rejoins_later : (mark : List ℕ) (b : ℕ) (bs : List ℕ) (later : Option (List ℕ × List ℕ)) → ((front back : List ℕ) → later ≡ Some (front, back) → bs ≡ front ++ (mark ++ back)) → (front back : List ℕ) → longer b later ≡ Some (front, back) → b ∷ bs ≡ front ++ (mark ++ back)

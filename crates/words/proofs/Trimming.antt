@@ -1,52 +1,12 @@
--- Separators taken from the ends of bytes.
-use Rattle.std.proofs.Common.{◌≡◌, ℕ, ◌+◌, ◌-◌, ◌≤◌, Bool, true, false, List, [], ◌∷◌, ◌++◌, reverse, length, get_or, take, drop, sym, refl, ap, ◌∙◌, ⊎_elim, arith}
-use Rattle.std.proofs.lemmas.List.{append-nil, reverse-append, reverse-reverse, take_rest, take_more, take_all}
+-- Trimming changes none of the pieces.
+use Rattle.std.proofs.Common.{◌≡◌, ℕ, Bool, List, [], ◌∷◌, reverse, sym, refl, ap, ◌∙◌, ⊎_elim}
+use Rattle.std.proofs.lemmas.List.{append-nil, reverse-append, reverse-reverse}
 use Rattle.std.proofs.lemmas.Bool.{cond-true, cond-false, cases_Bool}
 use Rattle.words.specs.Pieces.{pieces_of}
-use Rattle.words.specs.Trims.{without_front, without_back, trimmed_of, SamePieces}
+use Rattle.words.specs.Trims.{without_front, trimmed_of, SamePieces}
 use Rattle.words.proofs.Cutting.{cuts_apart}
 
--- all but the last byte, and the last
-pub last_apart : (bs : List ℕ) → 1 ≤ length bs → take (length bs - 1) bs ++ (get_or bs (length bs - 1) 0 ∷ []) ≡ bs
-last_apart bs some =
-    sym (take_more bs (length bs - 1) 0 (omega arith)) ∙ take_all (length bs - 1 + 1) bs (omega arith)
-
 module _ (sep : ℕ → Bool) where
-  -- the first byte
-  pub front_goes : (bs : List ℕ) → 1 ≤ length bs → sep (get_or bs 0 0) ≡ true → without_front sep (take (length bs - 1) (drop 1 bs)) ≡ without_front sep bs
-  front_goes [] some goes = absurd (omega arith)
-  front_goes (b ∷ bs) some goes = ap (without_front sep) (take_rest (b ∷ bs) 1) ∙ sym (cond-true _ _ _ goes)
-
-  pub front_stays : (bs : List ℕ) → 1 ≤ length bs → sep (get_or bs 0 0) ≡ false → without_front sep bs ≡ bs
-  front_stays [] some stays = absurd (omega arith)
-  front_stays (b ∷ bs) some stays = cond-false _ _ _ stays
-
-  pub front_none : (bs : List ℕ) → length bs ≡ 0 → without_front sep bs ≡ bs
-  front_none [] none = refl
-  front_none (b ∷ bs) none = absurd (omega arith)
-
-  -- the last byte
-  push_goes : (bs : List ℕ) (b : ℕ) → sep b ≡ true → without_back sep (bs ++ (b ∷ [])) ≡ without_back sep bs
-  push_goes bs b goes = ap (λ rs. reverse (without_front sep rs)) (reverse-append bs (b ∷ [])) ∙ ap reverse (cond-true _ _ _ goes)
-
-  push_stays : (bs : List ℕ) (b : ℕ) → sep b ≡ false → without_back sep (bs ++ (b ∷ [])) ≡ bs ++ (b ∷ [])
-  push_stays bs b stays =
-      ap (λ rs. reverse (without_front sep rs)) (reverse-append bs (b ∷ []))
-      ∙ ap reverse (cond-false _ _ _ stays ∙ sym (reverse-append bs (b ∷ [])))
-      ∙ reverse-reverse (bs ++ (b ∷ []))
-
-  pub back_goes : (bs : List ℕ) → 1 ≤ length bs → sep (get_or bs (length bs - 1) 0) ≡ true → without_back sep (take (length bs - 1) bs) ≡ without_back sep bs
-  back_goes bs some goes = sym (push_goes (take (length bs - 1) bs) _ goes) ∙ ap (without_back sep) (last_apart bs some)
-
-  pub back_stays : (bs : List ℕ) → 1 ≤ length bs → sep (get_or bs (length bs - 1) 0) ≡ false → without_back sep bs ≡ bs
-  back_stays bs some stays =
-      ap (without_back sep) (sym (last_apart bs some)) ∙ push_stays (take (length bs - 1) bs) _ stays ∙ last_apart bs some
-
-  pub back_none : (bs : List ℕ) → length bs ≡ 0 → without_back sep bs ≡ bs
-  back_none [] none = refl
-  back_none (b ∷ bs) none = absurd (omega arith)
-
-  -- the law
   front_pieces : (bs : List ℕ) → pieces_of sep (without_front sep bs) ≡ pieces_of sep bs
   front_pieces [] = refl
   front_pieces (b ∷ bs) =

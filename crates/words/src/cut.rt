@@ -4,7 +4,7 @@ ghost use Rattle.words.specs.Pieces.{ended, pieces_of, spacing, newline, Cutting
 
 use std::alloc::{AllocError, Global};
 
-// What bytes are cut at.
+// What bytes are cut at. A trait and no closure, so that a caller's contract names the test itself.
 pub trait Separator {
     ghost separates: { ℕ → Bool };
 
@@ -34,29 +34,13 @@ impl Separator for Newline {
     }
 }
 
-// Adds the run, unless it is empty.
-fn push_run<'a>(found: &mut Vec<&'a [u8]>, run: &'a [u8]) -> Result<(), AllocError>
-    ensures { OnOk result (map (λ x. x.now) found.new.items ≡ map (λ x. x.now) found.old.items ++ ended run.now []) }
-{
-    if !run.is_empty() {
-        found.push(run)?;
-    }
-    Ok(())
-}
-
 // The longest runs of bytes that are no separators, in their order.
 pub fn pieces<'a, S: Separator>(heap: Global, bytes: &'a [u8]) -> Result<Vec<&'a [u8]>, AllocError>
     ensures made { IfOk result (λ v. map (λ x. x.now) v.items ≡ pieces_of S.Separator.separates bytes.now) }
     ensures cuts { CuttingLaws S.Separator.separates }
 {
-    let mut found = Vec::new(heap);
-    let mut start = 0;
-    for (i, byte) in bytes.iter().enumerate() {
-        if S::is_separator(*byte) {
-            push_run(&mut found, &bytes[start..i])?;
-            start = i + 1;
-        }
-    }
-    push_run(&mut found, &bytes[start..])?;
-    Ok(found)
+    bytes
+        .split(|byte| S::is_separator(*byte))
+        .filter(|run| !run.is_empty())
+        .collect(heap)
 }

@@ -6,16 +6,13 @@ ghost use Rattle.words.specs.Numbers.{number_of, numbers_of, after_digit, Within
 fn with_digit(n: u64, byte: u8, most: u64) -> Option<u64>
     ensures { result ≡ after_digit most n byte }
 {
-    match byte {
-        b'0'..=b'9' => {
-            let next = n.checked_mul(10)?.checked_add(u64::from(byte - b'0'))?;
-            if next <= most { Some(next) } else { None }
-        }
-        _ => None,
-    }
+    let digit = char::from(byte).to_digit(10)?;
+    let next = n.checked_mul(10)?.checked_add(u64::from(digit))?;
+    if next <= most { Some(next) } else { None }
 }
 
 // The word's number: one or more decimal digits, and nothing else, that write a number of at most `most`.
+#[tactic(auto, using(crate::proofs::Digits::reads_back), unfolding(crate::specs::Numbers::number_of))]
 pub fn number(word: &[u8], most: u64) -> Option<u64>
     ensures value { result ≡ number_of most word.now }
     ensures bound { IfSome result (λ n. n ≤ most) }
@@ -39,9 +36,10 @@ pub fn numbers<const N: usize>(words: &[&[u8]], most: [u64; N]) -> Option<[u64; 
     if words.len() != N {
         return None;
     }
+    // a loop and no `array::try_from_fn`, which asks its caller that the items of an iterator fit the memory
     let mut found = [0; N];
-    for i in 0..N {
-        found[i] = number(words[i], most[i])?;
+    for (i, word) in words.iter().enumerate() {
+        found[i] = number(word, most[i])?;
     }
     Some(found)
 }

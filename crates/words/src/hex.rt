@@ -9,12 +9,7 @@ use std::alloc::{AllocError, Global};
 fn hex_digit(byte: u8) -> Option<u8>
     ensures { result ≡ hex_value byte }
 {
-    match byte {
-        b'0'..=b'9' => Some(byte - b'0'),
-        b'A'..=b'F' => Some(byte - b'A' + 10),
-        b'a'..=b'f' => Some(byte - b'a' + 10),
-        _ => None,
-    }
+    Some(char::from(byte).to_digit(16)? as u8)
 }
 
 // The byte that two digits write.
@@ -30,21 +25,19 @@ pub fn hex_byte_pairs(heap: Global, word: &[u8]) -> Result<Option<Vec<u8>>, Allo
 {
     let mut bytes = Vec::new(heap);
     let mut rest = word;
+    // a pattern and no `chunks_exact`: what is left in the end shows whether the digits pair up
     while let [high, low, after @ ..] = rest {
-        match hex_byte(*high, *low) {
-            Some(byte) => bytes.push(byte)?,
-            None => return Ok(None),
-        }
+        let Some(byte) = hex_byte(*high, *low) else {
+            return Ok(None);
+        };
+        bytes.push(byte)?;
         rest = after;
     }
-    if rest.is_empty() {
-        Ok(Some(bytes))
-    } else {
-        Ok(None)
-    }
+    Ok(rest.is_empty().then_some(bytes))
 }
 
 // The number that one to four digits write.
+#[tactic(auto, unfolding(crate::specs::Hex::hex_number_of))]
 pub fn hex_u16(word: &[u8]) -> Option<u16>
     ensures { result ≡ hex_number_of word.now }
 {
@@ -63,29 +56,25 @@ fn written_digit(value: u8) -> u8
     requires { value < 16 }
     ensures { result ≡ hex_digit_of value }
 {
-    if value < 10 {
-        b'0' + value
-    } else {
-        b'a' - 10 + value
-    }
+    char::from_digit(u32::from(value), 16).unwrap() as u8
 }
 
 // Adds the two digits of the byte.
+#[tactic(auto, using(crate::proofs::HexDigits::bytes_read_back))]
 pub fn push_hex_byte(out: &mut Vec<u8>, byte: u8) -> Result<(), AllocError>
     ensures made { OnOk result (out.new.items ≡ out.old.items ++ written_byte byte) }
     ensures reads_back { BytesReadBack }
 {
-    out.push(written_digit(byte / 16))?;
-    out.push(written_digit(byte % 16))?;
-    Ok(())
+    out.extend_from_slice(&[written_digit(byte / 16), written_digit(byte % 16)])
 }
 
 // Adds the four digits of the number.
+#[tactic(auto, using(crate::proofs::HexDigits::number_reads_back))]
 pub fn push_hex_u16(out: &mut Vec<u8>, number: u16) -> Result<(), AllocError>
     ensures made { OnOk result (out.new.items ≡ out.old.items ++ written_u16 number) }
     ensures reads_back { NumberReadsBack }
 {
-    push_hex_byte(out, (number / 256) as u8)?;
-    push_hex_byte(out, (number % 256) as u8)?;
-    Ok(())
+    let [high, low] = number.to_be_bytes();
+    push_hex_byte(out, high)?;
+    push_hex_byte(out, low)
 }

@@ -4,6 +4,8 @@ ghost use Rattle.words.specs.Trims.{without_front, without_back, trimmed_of, Sam
 
 use crate::cut::Separator;
 
+// The two ends have a loop each, as in the library's `trim_ascii_start` and `trim_ascii_end`: the pattern differs.
+
 // The bytes without the separators at their front.
 fn trim_front<'a, S: Separator>(bytes: &'a [u8]) -> &'a [u8]
     ensures { result.now ≡ without_front S.Separator.separates bytes.now }
@@ -11,7 +13,7 @@ fn trim_front<'a, S: Separator>(bytes: &'a [u8]) -> &'a [u8]
     let mut rest = bytes;
     while let [first, after @ ..] = rest {
         if !S::is_separator(*first) {
-            return rest;
+            break;
         }
         rest = after;
     }
@@ -25,7 +27,7 @@ fn trim_back<'a, S: Separator>(bytes: &'a [u8]) -> &'a [u8]
     let mut rest = bytes;
     while let [before @ .., last] = rest {
         if !S::is_separator(*last) {
-            return rest;
+            break;
         }
         rest = before;
     }
@@ -33,6 +35,7 @@ fn trim_back<'a, S: Separator>(bytes: &'a [u8]) -> &'a [u8]
 }
 
 // The bytes without the separators at their ends.
+#[tactic(auto, using(crate::proofs::Trimming::same_pieces), unfolding(crate::specs::Trims::trimmed_of))]
 pub fn trimmed<'a, S: Separator>(bytes: &'a [u8]) -> &'a [u8]
     ensures value { result.now ≡ trimmed_of S.Separator.separates bytes.now }
     ensures same_pieces { SamePieces S.Separator.separates }

@@ -1,33 +1,19 @@
-use Rattle.std.proofs.Common.{◌++◌, map, vec_items, sym, ap, ◌∙◌, arith, rules}
-use Rattle.words.proofs.Cutting.{goes_on, ends_there, last_run, cuts_apart}
+use Rattle.std.proofs.Common.{rules, tests}
+use Rattle.std.proofs.lemmas.Iterator.Consumers.{map_from_collect, YieldsList-at, YieldsList-from_filter}
+use Rattle.std.proofs.lemmas.Iterator.Splits.{YieldsList-from_slice_split}
+use Rattle.words.proofs.Cutting.{pieces_split, cuts_apart, is_some_run}
 use Rattle.words.proofs.cut.pieces.Goals as goal
-use Rattle.words.proofs.cut.pieces.Goals.{then-is_separator+in_ok-push_run, else-is_separator}
 
-pub loop-i-preserved : goal.loop-i-preserved
-loop-i-preserved g c =
+pub returns-clause-made : goal.returns-clause-made
+returns-clause-made g c =
     let sep = g.S.Separator.separates in
     let bs = c.args.bytes.now in
-    let ps = map (λ x. x.now) (vec_items c.loop-i.found) in
-    let start = c.loop-i.start in
-    let i = c.loop-i.i in
-    let within = c.loop-i-test.true in
-    elim c.if-is_separator.branch [
-      | then-is_separator+in_ok-push_run w ↦ rw (w.start-is, w.found-is, w.in_ok-push_run.ensures) (ends_there sep bs ps start i within c.loop-i.invariant (sym w.if-is_separator.ensures))
-      | else-is_separator w ↦ rw (w.start-is, w.found-is) (goes_on sep bs ps start i within c.loop-i.invariant (sym w.if-is_separator.ensures))
-    ]
+    rw (pieces_split sep bs)
+    (map_from_collect _ c.collect.ensures.ran
+    (YieldsList-from_filter _ is_some_run
+    (YieldsList-at c.filter.ensures.source (YieldsList-from_slice_split _ sep bs c.split.ensures.rest c.split.ensures.done c.split.ensures.closure (λ x r q k. search (rules, tests))))
+    c.filter.ensures.closure
+    (λ x r q k. search (rules, tests))))
 
-pub returns-in_err-push_run : goal.returns-in_err-push_run
-returns-in_err-push_run g c = record { made = search rules; cuts = cuts_apart g.S.Separator.separates }
-
-pub returns-in_err-push_run-2 : goal.returns-in_err-push_run-2
-returns-in_err-push_run-2 g c = record { made = search rules; cuts = cuts_apart g.S.Separator.separates }
-
-pub returns : goal.returns
-returns g c =
-    let sep = g.S.Separator.separates in
-    let bs = c.args.bytes.now in
-    let last = last_run sep bs c.loop-i.start c.loop-i.i (omega arith) in
-    record {
-      made = c.in_ok-push_run-2.ensures ∙ ap (λ ps. map (λ x. x.now) (vec_items c.loop-i.found) ++ ps) (sym last) ∙ c.loop-i.invariant.1;
-      cuts = cuts_apart sep;
-    }
+pub returns-clause-cuts : goal.returns-clause-cuts
+returns-clause-cuts g c = cuts_apart g.S.Separator.separates

@@ -1,0 +1,63 @@
+// The three kinds by their names, and the letters that name them.
+ghost use Rattle.std.specs.Prelude.{◌≡◌, ◌++◌, Some, codes};
+ghost use Rattle.std.proofs.Math.Utf8.{encode};
+ghost use Rattle.costs.specs.Names.{letter_of, named_by, named_under};
+
+use crate::kind::Kind;
+use crate::points::Points;
+use crate::rank::Rank;
+use crate::severity::Severity;
+use std::error::Error;
+use std::fmt;
+
+// Which kind of cost, where it is known only when the program runs.
+#[derive(Clone, Copy, Debug, PartialEq, Eq, Hash)]
+pub enum KindName {
+    Points,
+    Severity,
+    Rank,
+}
+
+// A letter that no kind has.
+#[derive(Clone, Copy, Debug, PartialEq, Eq, Hash)]
+pub struct UnknownLetter(pub char);
+
+impl KindName {
+    // The kind's letter.
+    pub fn letter(self) -> char
+        ensures value { result ≡ letter_of self }
+        ensures reads_back { named_by result ≡ Some self }
+    {
+        match self {
+            KindName::Points => Points::letter(),
+            KindName::Severity => Severity::letter(),
+            KindName::Rank => Rank::letter(),
+        }
+    }
+}
+
+// The kind that has the letter.
+impl TryFrom<char> for KindName {
+    type Error = UnknownLetter;
+
+    ghost try_from_gives = { λ letter result. result ≡ named_under letter };
+
+    fn try_from(letter: char) -> Result<Self, UnknownLetter> {
+        match letter {
+            'P' => Ok(KindName::Points),
+            'S' => Ok(KindName::Severity),
+            'R' => Ok(KindName::Rank),
+            _ => Err(UnknownLetter(letter)),
+        }
+    }
+}
+
+impl fmt::Display for UnknownLetter {
+    ghost output = { λ e. Some (codes "no kind of cost has the letter " ++ encode e.0) };
+
+    fn fmt<W: fmt::Write>(&self, f: &mut fmt::Formatter<W>) -> fmt::Result {
+        write!(f, "no kind of cost has the letter {}", self.0)
+    }
+}
+
+impl Error for UnknownLetter {}
