@@ -4,7 +4,7 @@ use Rattle.costs.specs.declared.kind.Kind.{Ghosts}
 use Rattle.costs.specs.Meaning.{Meaning, Lawful}
 use Rattle.board.specs.declared.draft.Draft.{Draft}
 use Rattle.board.specs.declared.settled.Settled.{Settled}
-use Rattle.board.specs.Content.{Content, new, Sound}
+use Rattle.board.specs.Content.{Content, new}
 use Rattle.board.specs.Held.{draft_content}
 use Rattle.board.specs.Boards.{settled_content, settled_records}
 use Rattle.board.specs.Settling.{Record}
@@ -13,10 +13,9 @@ use Rattle.file.specs.declared.call.Call.{Call}
 use Rattle.file.specs.declared.call.Call.TheVariants as call
 use Rattle.file.specs.declared.boards.Board.{Board}
 use Rattle.file.specs.declared.boards.Board.TheVariants as board
-use Rattle.file.specs.States.{State, draft, settled, content, edited, on_draft, on_settled, stepped, state_after}
+use Rattle.file.specs.States.{State, draft, settled, edited, on_draft, on_settled, stepped, state_after}
 use Rattle.file.specs.Told.{Told, settles, reopened, draft_answer, settled_answer, settled_buffer, step_answer_draft, step_answer_settled, step_answer, step_buffer}
 use Rattle.file.specs.Histories.{state_of, records_of, defined_records, Holds, Follows}
-use Rattle.file.proofs.Sounding.{state_sound}
 use Rattle.file.proofs.Promising.{state_split, main_promise}
 
 -- what `step` ensures
@@ -50,7 +49,7 @@ settled_told m c log x buffer other = refl
 module _ {K : Type 0} {k : Ghosts K} {m : Meaning} (laws : Lawful m) where
   -- the records are the defined ones where they were before
   abbrev Kept : Board K k → Board K k → Type 0
-  Kept b after = Sound m (content (state_of b)) → records_of b ≡ defined_records m (state_of b) → records_of after ≡ defined_records m (state_of after)
+  Kept b after = records_of b ≡ defined_records m (state_of b) → records_of after ≡ defined_records m (state_of after)
 
   follows : (b : Board K k) (x : Call) (buffer : List ℕ) (after : Board K k) (told : Told) (left : List ℕ) → state_of after ≡ stepped m (state_of b) x → told ≡ step_answer m (state_of b) (records_of b) x buffer → left ≡ step_buffer m (state_of b) (records_of b) x buffer → Kept b after → Step m b x buffer after told left
   follows b x buffer after told left state answer written kept = record {
@@ -58,34 +57,33 @@ module _ {K : Type 0} {k : Ghosts K} {m : Meaning} (laws : Lawful m) where
     answer = answer;
     after = written;
     history = λ calls h.
-        let sound : Sound m (content (state_of b)) = subst (λ (s : State). Sound m (content s)) (sym h.state) (state_sound m (h.promises.kept m) (draft new) calls (h.promises.kept m).begun) in
         let reached : state_of after ≡ state_after m (calls ++ (x ∷ [])) = state ∙ ap (λ (s : State). stepped m s x) h.state ∙ sym (state_split m (draft new) calls (x ∷ [])) in
         record {
-          holds = record { state = reached; records = kept sound (h.records ∙ ap (defined_records m) (sym h.state)) ∙ ap (defined_records m) reached; promises = h.promises };
+          holds = record { state = reached; records = kept (h.records ∙ ap (defined_records m) (sym h.state)) ∙ ap (defined_records m) reached; promises = h.promises };
           answered = answer ∙ (λ i. step_answer m (h.state i) (h.records i) x buffer);
           written = written ∙ (λ i. step_buffer m (h.state i) (h.records i) x buffer);
           promise = main_promise laws h.promises (calls ++ (x ∷ []));
         };
   }
 
-  pub edits : (b : Board K k) (d e : Draft K) (x : Call) (buffer : List ℕ) (told : Told) → b ≡ board.Drafted d → (x ≡ call.Settle → ⊥) → draft_content e ≡ edited m (draft_content d) x → told ≡ draft_answer m (draft_content d) x → Step m b x buffer (board.Drafted e) told buffer
+  pub edits : (b : Board K k) (d e : Draft K k) (x : Call) (buffer : List ℕ) (told : Told) → b ≡ board.Drafted d → (x ≡ call.Settle → ⊥) → draft_content e ≡ edited m (draft_content d) x → told ≡ draft_answer m (draft_content d) x → Step m b x buffer (board.Drafted e) told buffer
   edits b d e x buffer told is other after answer =
       subst (λ (b : Board K k). Step m b x buffer (board.Drafted e) told buffer) (sym is)
-      (follows (board.Drafted d) x buffer (board.Drafted e) told buffer (ap draft after ∙ sym (draft_rest m (draft_content d) x other)) (answer ∙ sym (draft_told m (draft_content d) x other)) refl (λ _ _. refl))
+      (follows (board.Drafted d) x buffer (board.Drafted e) told buffer (ap draft after ∙ sym (draft_rest m (draft_content d) x other)) (answer ∙ sym (draft_told m (draft_content d) x other)) refl (λ _. refl))
 
-  pub settles_it : (b : Board K k) (d : Draft K) (s : Settled K k) (x : Call) (buffer : List ℕ) → b ≡ board.Drafted d → x ≡ call.Settle → settled_content s ≡ draft_content d → (Sound m (draft_content d) → settled_records s ≡ settled_log m (draft_content d)) → Step m b x buffer (board.Settled s) settles buffer
+  pub settles_it : (b : Board K k) (d : Draft K k) (s : Settled K k) (x : Call) (buffer : List ℕ) → b ≡ board.Drafted d → x ≡ call.Settle → settled_content s ≡ draft_content d → settled_records s ≡ settled_log m (draft_content d) → Step m b x buffer (board.Settled s) settles buffer
   settles_it b d s x buffer is at same computed =
       subst (λ (b : Board K k). Step m b x buffer (board.Settled s) settles buffer) (sym is)
       (subst (λ (y : Call). Step m (board.Drafted d) y buffer (board.Settled s) settles buffer) (sym at)
-      (follows (board.Drafted d) call.Settle buffer (board.Settled s) settles buffer (ap settled same) refl refl (λ sound _. computed sound ∙ ap (settled_log m) (sym same))))
+      (follows (board.Drafted d) call.Settle buffer (board.Settled s) settles buffer (ap settled same) refl refl (λ _. computed ∙ ap (settled_log m) (sym same))))
 
   pub asks_it : (b : Board K k) (s : Settled K k) (x : Call) (buffer : List ℕ) (told : Told) (left : List ℕ) → b ≡ board.Settled s → (x ≡ call.Reopen → ⊥) → told ≡ settled_answer m (settled_content s) (settled_records s) x buffer → left ≡ settled_buffer m (settled_content s) (settled_records s) x buffer → Step m b x buffer (board.Settled s) told left
   asks_it b s x buffer told left is other answer written =
       subst (λ (b : Board K k). Step m b x buffer (board.Settled s) told left) (sym is)
-      (follows (board.Settled s) x buffer (board.Settled s) told left (sym (settled_rest (settled_content s) x other)) (answer ∙ sym (settled_told m (settled_content s) (settled_records s) x buffer other)) written (λ _ h. h))
+      (follows (board.Settled s) x buffer (board.Settled s) told left (sym (settled_rest (settled_content s) x other)) (answer ∙ sym (settled_told m (settled_content s) (settled_records s) x buffer other)) written (λ h. h))
 
-  pub reopens_it : (b : Board K k) (s : Settled K k) (d : Draft K) (x : Call) (buffer : List ℕ) → b ≡ board.Settled s → x ≡ call.Reopen → draft_content d ≡ settled_content s → Step m b x buffer (board.Drafted d) reopened buffer
+  pub reopens_it : (b : Board K k) (s : Settled K k) (d : Draft K k) (x : Call) (buffer : List ℕ) → b ≡ board.Settled s → x ≡ call.Reopen → draft_content d ≡ settled_content s → Step m b x buffer (board.Drafted d) reopened buffer
   reopens_it b s d x buffer is at same =
       subst (λ (b : Board K k). Step m b x buffer (board.Drafted d) reopened buffer) (sym is)
       (subst (λ (y : Call). Step m (board.Settled s) y buffer (board.Drafted d) reopened buffer) (sym at)
-      (follows (board.Settled s) call.Reopen buffer (board.Drafted d) reopened buffer (ap draft same) refl refl (λ _ _. refl)))
+      (follows (board.Settled s) call.Reopen buffer (board.Drafted d) reopened buffer (ap draft same) refl refl (λ _. refl)))

@@ -1,5 +1,6 @@
 -- What a load answers and leaves, for every list of bytes.
 use Rattle.std.specs.Prelude.{ℕ, Bool, cond, ◌&&◌, List, [], length, drop, Some, None, Ok, Err, Option, Result, ◌==◌, nat_le, nat_lt}
+use Rattle.costs.specs.declared.kind.Kind.{Ghosts}
 use Rattle.costs.specs.Meaning.{Meaning}
 use Rattle.board.specs.Content.{Content, new}
 use Rattle.board.specs.Held.{draft_content}
@@ -27,7 +28,7 @@ abbrev pub loaded_as : Content → Piece → Loaded
 loaded_as c n = record { content = c; note = n }
 
 -- a board that is being filled, and the note so far
-abbrev pub so_far : {K : Type 0} → Filling K → Loaded
+abbrev pub so_far : {K : Type 0} {k : Ghosts K} → Filling K k → Loaded
 so_far f = loaded_as (draft_content f.draft) (piece f.note)
 
 abbrev pub with_content : Loaded → Content → Result Loaded LoadFault
@@ -100,7 +101,7 @@ opened m bs c =
     cond (nat_lt (length bs) 4) (Err CutShort)
     (go_on (header_read m (word4 bs)) (λ h. go_on (sized h c) (λ d. Ok (record { content = d; trust = h.trust }))))
 
-abbrev pub opened_as : {K : Type 0} → Result (Draft K × ℕ) FileRefusal → Result Opened FileRefusal
+abbrev pub opened_as : {K : Type 0} {k : Ghosts K} → Result (Draft K k × ℕ) FileRefusal → Result Opened FileRefusal
 opened_as (Ok p) = Ok (record { content = draft_content p.0; trust = p.1 })
 opened_as (Err e) = Err e
 
@@ -113,7 +114,7 @@ filled m bs c =
 abbrev pub loaded : Meaning → List ℕ → Result Loaded LoadFault
 loaded m bs = filled m bs new
 
-abbrev pub read_as : {K : Type 0} → Result (Draft K × Part) LoadFault → Result Loaded LoadFault
+abbrev pub read_as : {K : Type 0} {k : Ghosts K} → Result (Draft K k × Part) LoadFault → Result Loaded LoadFault
 read_as (Ok p) = Ok (loaded_as (draft_content p.0) (piece p.1))
 read_as (Err e) = Err e
 

@@ -1,5 +1,5 @@
 // Loading a file into a draft.
-ghost use Rattle.std.specs.Prelude.{◌≡◌, ◌+◌, drop, OnOk, IfOk};
+ghost use Rattle.std.specs.Prelude.{◌≡◌, ◌+◌, drop, OnOk};
 ghost use Rattle.costs.specs.Meaning.{Meaning};
 ghost use Rattle.board.specs.Content.{Content, Sound, new};
 ghost use Rattle.board.specs.Held.{draft_content};
@@ -57,7 +57,6 @@ fn load_draft<'a, K: Kind>(draft: &mut Draft<K>, bytes: &'a [u8]) -> Result<Note
 // The board that the file describes, and its note.
 fn read_file<'a, K: Kind>(bytes: &'a [u8]) -> Result<(Draft<K>, Note<'a>), LoadFault>
     ensures answer { read_as result ≡ loaded K.meaning bytes.now }
-    ensures sound { IfOk result (λ p. Sound K.meaning (draft_content p.0)) }
 {
     let mut left = Unread { bytes, place: 0 };
     let (draft, trust) = open(&mut left).map_err(|refusal| refusal.at(0))?;
@@ -78,7 +77,6 @@ fn read_file<'a, K: Kind>(bytes: &'a [u8]) -> Result<(Draft<K>, Note<'a>), LoadF
 fn open<K: Kind>(left: &mut Unread<'_>) -> Result<(Draft<K>, u8), FileRefusal>
     ensures answer { opened_as result ≡ opened K.meaning left.old.bytes.now new }
     ensures rest { OnOk result ((left.new.bytes.now ≡ drop 4 left.old.bytes.now) × (left.new.place ≡ left.old.place + 4)) }
-    ensures sound { IfOk result (λ p. Sound K.meaning (draft_content p.0)) }
 {
     let head = left.read().ok_or(FileRefusal::CutShort)?;
     let header = read_header::<K>(u32::from_be_bytes(head))?;

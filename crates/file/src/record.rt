@@ -1,7 +1,7 @@
 // What a section of rows or of lines holds.
 ghost use Rattle.std.specs.Prelude.{◌≡◌, ℕ, Result};
 ghost use Rattle.costs.specs.Meaning.{Meaning};
-ghost use Rattle.board.specs.Content.{Content, Sound};
+ghost use Rattle.board.specs.Content.{Content};
 ghost use Rattle.board.specs.Held.{draft_content};
 ghost use Rattle.file.specs.declared.refusal.FileRefusal.{FileRefusal};
 ghost use Rattle.file.specs.Fields.{row_read, line_read};
@@ -27,8 +27,7 @@ pub(crate) trait Record: Sized {
 
     // Puts it on the board, a line's cost as trust has it.
     fn add<K: Kind>(self, draft: &mut Draft<K>, trust: u8) -> Result<(), FileRefusal>
-        ensures after { told result (draft_content draft.new) ≡ added K.meaning trust (draft_content draft.old) self }
-        ensures kept { Sound K.meaning (draft_content draft.old) → Sound K.meaning (draft_content draft.new) };
+        ensures after { told result (draft_content draft.new) ≡ added K.meaning trust (draft_content draft.old) self };
 }
 
 impl Record for Row {

@@ -1,6 +1,5 @@
 // From one section to the next.
 ghost use Rattle.std.specs.Prelude.{◌≡◌, ◌+◌, drop, OnOk};
-ghost use Rattle.board.specs.Content.{Sound};
 ghost use Rattle.board.specs.Held.{draft_content};
 ghost use Rattle.file.specs.Sections.{found_section, reading};
 ghost use Rattle.file.specs.Records.{told, record_added, record_next, records};
@@ -18,8 +17,7 @@ use costs::Kind;
 impl<'a, K: Kind> Filling<'a, K> {
     // Adds all sections that the reader has left.
     pub fn add_sections(&mut self, mut reader: Reader<'a>) -> Result<(), LoadFault>
-        ensures after { told result (so_far self.new) ≡ from_last K.meaning self.old.trust reader.entry.last (reading reader.entry).left (so_far self.old) }
-        ensures kept { Sound K.meaning (draft_content self.old.draft) → Sound K.meaning (draft_content self.new.draft) }
+        ensures { told result (so_far self.new) ≡ from_last K.meaning self.old.trust reader.entry.last (reading reader.entry).left (so_far self.old) }
     {
         while let Some(section) = reader.next()? {
             self.add_section(section)?;
@@ -31,7 +29,6 @@ impl<'a, K: Kind> Filling<'a, K> {
     fn add_section(&mut self, section: Section<'a>) -> Result<(), LoadFault>
         ensures after { told result (so_far self.new) ≡ section_added K.meaning self.old.trust (found_section section.entry) (so_far self.old) }
         ensures same { self.new.trust ≡ self.old.trust }
-        ensures kept { Sound K.meaning (draft_content self.old.draft) → Sound K.meaning (draft_content self.new.draft) }
     {
         match section.kind {
             SectionKind::Rows => self.add_records::<Row>(section),
@@ -57,7 +54,6 @@ impl<'a, K: Kind> Filling<'a, K> {
     fn add_records<R: Record>(&mut self, section: Section<'a>) -> Result<(), LoadFault>
         ensures after { told result (draft_content self.new.draft) ≡ records (record_added R.read_as (R.added K.meaning self.old.trust)) section.entry.count section.entry.part.bytes.now section.entry.part.place (draft_content self.old.draft) }
         ensures same { (self.new.trust ≡ self.old.trust) × (self.new.note ≡ self.old.note) }
-        ensures kept { Sound K.meaning (draft_content self.old.draft) → Sound K.meaning (draft_content self.new.draft) }
     {
         let mut part = section.part;
         for _ in 0..section.count {
@@ -73,7 +69,6 @@ impl<'a, K: Kind> Filling<'a, K> {
         ensures after { told result (draft_content self.new.draft) ≡ record_next (record_added R.read_as (R.added K.meaning self.old.trust)) part.old.bytes.now (draft_content self.old.draft) }
         ensures rest { OnOk result ((part.new.bytes.now ≡ drop 8 part.old.bytes.now) × (part.new.place ≡ part.old.place + 8)) }
         ensures same { (self.new.trust ≡ self.old.trust) × (self.new.note ≡ self.old.note) }
-        ensures kept { Sound K.meaning (draft_content self.old.draft) → Sound K.meaning (draft_content self.new.draft) }
     {
         let word = part.read().ok_or(FileRefusal::CutShort)?;
         let record = R::read(u64::from_be_bytes(word))?;

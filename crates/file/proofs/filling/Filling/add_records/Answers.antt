@@ -25,7 +25,7 @@ loop-preserved g c =
     let more = records_more add l.part.bytes.now l.part.place (draft_content l.self.draft) (c.args.section.count - l.counter) (c.args.section.count - (l.counter + 1)) d (omega arith) r in
     let b : c.add_record.new.part.bytes.now ≡ drop 8 l.part.bytes.now = search rules in
     let p : c.add_record.new.part.place ≡ l.part.place + 8 = search rules in
-    record { left = rw (t, b, p) (sym more ∙ l.invariant.left); same = search rules; kept = search rules }
+    record { left = rw (t, b, p) (sym more ∙ l.invariant.left); same = search rules }
 
 pub returns-clause-after : goal.returns-clause-after
 returns-clause-after g c =

@@ -1,6 +1,5 @@
 -- What is left gives what the whole does.
 use Rattle.std.proofs.Common.{◌≡◌, ◌-◌}
-use Rattle.board.specs.Content.{Sound}
 use Rattle.board.specs.Held.{draft_content}
 use Rattle.file.specs.Records.{record_added, records}
 use Rattle.file.proofs.filling.Filling.add_records.Given as goal
@@ -10,5 +9,4 @@ invariant-loop g l = record {
   left : records (record_added g.R.Record.read_as (g.R.Record.added g.K.Kind.meaning l.self.trust)) (l.section.count - l.counter) l.part.bytes.now l.part.place (draft_content l.self.draft)
       ≡ records (record_added g.R.Record.read_as (g.R.Record.added g.K.Kind.meaning l.fn.self.trust)) l.section.count l.section.part.bytes.now l.section.part.place (draft_content l.fn.self.draft);
   same : (l.self.trust ≡ l.fn.self.trust) × (l.self.note ≡ l.fn.self.note);
-  kept : Sound g.K.Kind.meaning (draft_content l.fn.self.draft) → Sound g.K.Kind.meaning (draft_content l.self.draft);
 }

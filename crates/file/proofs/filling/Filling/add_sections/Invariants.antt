@@ -1,7 +1,5 @@
 -- What is left gives what the whole does.
 use Rattle.std.proofs.Common.{◌≡◌, length}
-use Rattle.board.specs.Content.{Sound}
-use Rattle.board.specs.Held.{draft_content}
 use Rattle.file.specs.Sections.{reading}
 use Rattle.file.specs.Load.{so_far, from_last}
 use Rattle.file.proofs.filling.Filling.add_sections.Given as goal
@@ -10,7 +8,6 @@ abbrev pub invariant-loop-section : goal.invariant-loop-section
 invariant-loop-section g l = record {
   left : from_last g.K.Kind.meaning l.self.trust l.reader.last (reading l.reader).left (so_far l.self)
       ≡ from_last g.K.Kind.meaning l.fn.self.trust l.fn.reader.last (reading l.fn.reader).left (so_far l.fn.self);
-  kept : Sound g.K.Kind.meaning (draft_content l.fn.self.draft) → Sound g.K.Kind.meaning (draft_content l.self.draft);
 }
 
 abbrev pub decreases-loop-section : goal.decreases-loop-section
