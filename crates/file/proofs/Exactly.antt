@@ -47,7 +47,15 @@ sized_ok : (h : Header) → 0 < h.modes * h.moments → h.modes * h.moments ≤ 
 unfolding sized
 sized_ok h some few = let e = size_taken h.modes h.moments some few in rw e
 
--- a part at place 0 that was taken
+-- the header that opened a new board
+record OpenedNew (m : Meaning) (bs : List ℕ) (o : Opened) : Type 0 where
+  long : 4 ≤ length bs
+  header : Header
+  read : header_read m (word4 bs) ≡ Ok header
+  size : SizedNew header (with_size new header.modes header.moments)
+  is : record { content = with_size new header.modes header.moments; trust = header.trust } ≡ o
+
+-- a part that was taken
 placed : {X : Type 0} (o : Result X FileRefusal) (place : ℕ) (x : X) → at_place o place ≡ Ok x → o ≡ Ok x
 placed (Ok y) place x h = ap Ok (ok_same h)
 placed (Err e) place x h = absurd (err_not_ok x (fault_at e place) (sym h))
@@ -97,19 +105,29 @@ module _ (m : Meaning) where
         notes = t.noted ∙ notes note (4 + length (drop 4 bs)) (length (written d)) bs (ends ∙ ap length (sym laid)) (ap length (sym laid));
       }
 
+  opened_was : (bs : List ℕ) (o : Opened) → opened m bs new ≡ Ok o → OpenedNew m bs o
+  opened_was bs o e =
+      let u = uncut (ltb (length bs) 4) CutShort _ o e in
+      let a = went_on (header_read m (word4 bs)) (λ (h : Header). go_on (sized h new) (λ (d : Content). Ok (record { content = d; trust = h.trust }))) o u.1 in
+      let d = went_on (sized a.value new) (λ (d : Content). Ok (record { content = d; trust = a.value.trust })) o a.then in
+      let s = sized_was a.value d.value d.answered in
+      record {
+        long = ltb-false (length bs) 4 u.0;
+        header = a.value;
+        read = a.answered;
+        size = record { some_place = s.some_place; few_places = s.few_places; is = refl };
+        is = (λ i. record { content = s.is i; trust = a.value.trust }) ∙ ok_same d.then;
+      }
+
   accepted_as : (bs : List ℕ) (y : Loaded) → AllByRecursion Byte bs → loaded m bs ≡ Ok y → Described m bs y.content y.note
   accepted_as bs y e h =
       let on = λ (o : Opened). from_rows m o.trust (after_header bs) (loaded_as o.content (no_note bs)) in
       let a = went_on (at_place (opened m bs new) 0) on y h in
-      let u = uncut (ltb (length bs) 4) CutShort _ a.value (placed (opened m bs new) 0 a.value a.answered) in
-      let b = went_on (header_read m (word4 bs)) (λ (k : Header). go_on (sized k new) (λ (d : Content). Ok (record { content = d; trust = k.trust }))) a.value u.1 in
-      let d = went_on (sized b.value new) (λ (d : Content). Ok (record { content = d; trust = b.value.trust })) a.value b.then in
-      let w = header_read_word m (word4 bs) b.value (word4_fits bs e) b.answered in
-      let s = sized_was b.value d.value d.answered in
-      let same : record { content = d.value; trust = b.value.trust } ≡ a.value = ok_same d.then in
-      let rows = subst (λ (c : Content). on (record { content = c; trust = b.value.trust }) ≡ Ok y) (sym s.is) (subst (λ (o : Opened). on o ≡ Ok y) (sym same) a.then) in
-      let t = rows_tail m b.value.trust (after_header bs) (loaded_as (with_size new b.value.modes b.value.moments) (no_note bs)) y (each_drop 4 bs e) (omega arith) (omega arith) rows in
-      describe bs y b.value t.0 t.1 t.2 (ltb-false (length bs) 4 u.0) e w (record { some_place = s.some_place; few_places = s.few_places; is = refl }) t.3
+      let o = opened_was bs a.value (placed (opened m bs new) 0 a.value a.answered) in
+      let w = header_read_word m (word4 bs) o.header (word4_fits bs e) o.read in
+      let rows = subst (λ (x : Opened). on x ≡ Ok y) (sym o.is) a.then in
+      let t = rows_tail m o.header.trust (after_header bs) (loaded_as (with_size new o.header.modes o.header.moments) (no_note bs)) y (each_drop 4 bs e) (omega arith) (omega arith) rows in
+      describe bs y o.header t.0 t.1 t.2 o.long e w o.size t.3
 
   -- from the description to what is accepted
   past_header : (bs : List ℕ) (h : Header) (d : Content) → 4 ≤ length bs → header_read m (word4 bs) ≡ Ok h → sized h new ≡ Ok d → loaded m bs ≡ from_rows m h.trust (after_header bs) (loaded_as d (no_note bs))
