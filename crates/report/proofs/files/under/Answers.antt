@@ -18,5 +18,5 @@ returns-in-Ok g c =
     let l = c.in-Ok.ensures in
     let s = c.settle.ensures in
     subst (λ (z : List ℕ). IfOk c.reading.result (λ v. vec_items v ≡ z))
-    (loaded_so g.K.Kind.meaning _ _ _ _ _ _ l.answer s.content l.after (s.computed l.sound))
+    (loaded_so g.K.Kind.meaning _ _ _ _ _ _ l.answer s.content l.after s.computed)
     c.reading.ensures
