@@ -49,7 +49,7 @@ pub enum Refusal {
 }
 
 impl Refusal {
-    // Its number.
+    // Its number. (By `as`, the language's own conversion of an enum with numbers.)
     pub fn number(self) -> u8
         ensures { result ≡ number self }
     {

@@ -43,7 +43,7 @@ pub struct LoadFault {
 }
 
 impl Layer {
-    // Its number.
+    // Its number. (By `as`, the language's own conversion of an enum with numbers.)
     pub fn number(self) -> u8
         ensures { result ≡ layer_number self }
     {
