@@ -93,7 +93,8 @@ fn kind_of(bytes: &[u8]) -> KindName
     KindName::try_from(letter).unwrap_or(KindName::Points)
 }
 
-// What `least` prints of a file's bytes: under the kind of its first letter, or under points.
+// What `least` prints of a file's bytes: under the kind of its first letter, or under points. (A kind is a type: a trait
+// whose method is run under each would be no plainer than three arms.)
 #[tactic(auto, using(crate::proofs::Working::worked))]
 pub fn least(heap: Global, bytes: &[u8]) -> Result<Vec<u8>, AllocError>
     ensures lines { IfOk result (λ v. v.items ≡ least_lines bytes.now) }
