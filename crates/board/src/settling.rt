@@ -14,7 +14,8 @@ mod steps;
 pub(crate) use rounds::settled_log;
 
 // The log so far, and for each unsettled pair its best candidate so far, which stands for every candidate. The tables are
-// lent to each call.
+// lent to each call. (That this is so stays a clause, `state`, of its methods: it holds data, and a ghost field must be a
+// proposition.)
 #[derive(Drop)]
 pub(crate) struct Settling {
     log: Log,
