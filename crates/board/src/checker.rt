@@ -10,8 +10,8 @@ pub(crate) struct Brackets {
     open: ArrayVec<u8, 4096>,
 }
 
-// The place reached, the brackets open there, whether an end row was met, and the costs so far joined. (Not an optional
-// place: after an end row the place still stands, and what has come so far is told with it.)
+// The place reached, the brackets open there, whether an end row was met, and the costs so far joined. (No optional place
+// in place of the two: the definition of how far a check has come keeps both, also after an end row.)
 #[derive(Drop)]
 pub(crate) struct Checker {
     place: Place,

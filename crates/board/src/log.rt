@@ -4,7 +4,7 @@ use crate::moves::{Move, Place};
 mod calls;
 
 // How an entry came about: from nothing, by one step more, or by one call more. `front` and `inside` are the numbers
-// of earlier entries.
+// of earlier entries (there is no heap to hold these entries themselves).
 #[derive(Clone, Copy)]
 pub(crate) enum Source {
     Start,
@@ -25,7 +25,8 @@ pub(crate) struct Entry {
 // The entries in the order of settling, where each pair's stands (pair number: first place times 64 plus second), and
 // how many moves each spells out, 65,536 where they are more. (A plain array and its count: entries are read by their
 // numbers at every step, and through a list's slice each of these looks would need a fact of its own. The lengths stand
-// beside them, since a candidate is an entry too, and is measured only when it is settled.)
+// beside them: a candidate is an entry too, and is measured only when it is settled; in one array, each look at an entry
+// would take a pair apart.)
 #[derive(Drop)]
 pub(crate) struct Log {
     pub entries: [Entry; 4096],

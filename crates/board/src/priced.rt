@@ -1,4 +1,4 @@
-// What has a cost, and setting it.
+// Setting the cost of a row or a line.
 ghost use Rattle.std.specs.Prelude.{◌≡◌, ℕ};
 ghost use Rattle.board.specs.Refusals.{answer, unless};
 ghost use Rattle.board.specs.Calls.{row_at_cost, line_at_cost, reprice_fault, changed};
@@ -8,7 +8,7 @@ use crate::row::{Line, Row};
 use arrayvec::ArrayVec;
 use costs::Kind;
 
-// What has a cost.
+// What can be put at another cost.
 pub(crate) trait Priced: Copy {
     ghost at_cost: { ℕ → Self → Self };
 

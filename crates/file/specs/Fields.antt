@@ -43,7 +43,7 @@ head_code bs = field (word2 bs) 12 4
 abbrev pub head_count : List ℕ → ℕ
 head_count bs = field (word2 bs) 0 12
 
--- the kind of row that has the number, one of two bits
+-- the kind of row that has the number, a number of two bits
 abbrev pub kind_at : ℕ → RowKind
 kind_at n = unwrap_or (kind_of_number n) End
 

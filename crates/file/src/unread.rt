@@ -3,7 +3,8 @@ ghost use Rattle.std.specs.Prelude.{◌≡◌, ◌+◌, ◌^◌, ◌<◌, ◌≤
 
 use crate::part::Part;
 
-// Bytes that are still to be read, and the place of the first of them in the file.
+// Bytes that are still to be read, and the place of the first of them in the file. (Not the public `Part`, which is any
+// bytes and any place: here the place is kept within what a number holds.)
 #[derive(Clone, Copy)]
 pub(crate) struct Unread<'a> {
     pub bytes: &'a [u8],

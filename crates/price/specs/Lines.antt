@@ -97,7 +97,7 @@ abbrev pub ReadsWritten : Type 0
 ReadsWritten =
     (l : ℕ) (m : Meaning) → kind_with_letter l ≡ Some m → (xs : List ℕ) → Of32Bits xs → line_answer (l ∷ written_costs xs) ≡ joined_answer m (map decimal xs) xs
 
--- What a line's outcome stands for, with bytes in place of references; nothing where memory did not suffice.
+-- What a line's outcome stands for, with bytes in place of references; `None` where memory did not suffice.
 abbrev pub answer_of : Result (Option Total) Fault → Option LineAnswer
 answer_of (Ok None) = Some nothing
 answer_of (Ok (Some t)) = Some (total (letter_of t.kind) t.cost)

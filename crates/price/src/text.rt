@@ -8,7 +8,8 @@ use crate::line::answer;
 use std::alloc::{AllocError, Global};
 use words::{Newline, pieces};
 
-// Adds a line of a label and the word.
+// Adds a line of a label and the word. (By bytes, and not by `Display`: the word stands as it was written, and need be no
+// text.)
 fn push_word_line(out: &mut Vec<u8>, label: &[u8], word: &[u8]) -> Result<(), AllocError>
     ensures { OnOk result (out.new.items ≡ out.old.items ++ word_line label.now word.now) }
 {
@@ -18,7 +19,8 @@ fn push_word_line(out: &mut Vec<u8>, label: &[u8], word: &[u8]) -> Result<(), Al
     Ok(())
 }
 
-// Adds what is printed of an answer. A number that is no cost of the kind is refusal 10.
+// Adds what is printed of an answer. A number that is no cost of the kind is refusal 10. (Where memory did not suffice,
+// nothing is printed, and that is the error of the whole.)
 fn push_answer(heap: Global, out: &mut Vec<u8>, answer: Answer<'_>) -> Result<(), AllocError>
     ensures { OnOk result (IsSomeAnd (answer_of answer.entry) (λ a. out.new.items ≡ out.old.items ++ printed a)) }
 {

@@ -3,28 +3,14 @@ ghost use Rattle.std.specs.Prelude.{◌≡◌, ◌++◌, IfOk, OnOk, slice_index
 ghost use Rattle.std.specs.List.{flat_map};
 ghost use Rattle.costs.specs.Names.{meaning_of};
 ghost use Rattle.board.specs.Boards.{settled_content, settled_records};
-ghost use Rattle.report.specs.Least.{meaning_under, bad_line, no_line, packed_line, settled_lines, lines_under, least_lines};
+ghost use Rattle.report.specs.Least.{meaning_under, packed_line, settled_lines, lines_under, least_lines};
 ghost use Rattle.report.specs.Worked.{WorkedExamples};
 
-use board::{Draft, Move, Refusal, Settled};
+use board::{Draft, Move, Settled};
 use costs::{Kind, KindName, Points, Rank, Severity};
-use file::{Load, LoadFault};
+use file::Load;
 use std::alloc::{AllocError, Global};
 use std::fmt::Write;
-
-// The line of a declined load.
-fn bad(heap: Global, fault: LoadFault) -> Result<String, AllocError>
-    ensures { IfOk result (λ s. string_bytes s ≡ bad_line fault) }
-{
-    format!(in heap; "{fault}\n")
-}
-
-// The line of a declined question.
-fn no(heap: Global, refusal: Refusal) -> Result<String, AllocError>
-    ensures { IfOk result (λ s. string_bytes s ≡ no_line refusal) }
-{
-    format!(in heap; "{refusal}\n")
-}
 
 // Adds the line of a move: its row, its line or `-`, and the row's action.
 fn push_move<K: Kind>(out: &mut String, settled: &Settled<K>, packed: u16) -> Result<(), AllocError>
@@ -61,12 +47,12 @@ fn reading<K: Kind>(heap: Global, settled: &Settled<K>) -> Result<String, AllocE
 {
     let (cost, number) = match settled.cost() {
         Ok(answer) => answer,
-        Err(refusal) => return no(heap, refusal),
+        Err(refusal) => return format!(in heap; "{refusal}\n"),
     };
     let mut buffer = [0; 4096];
     let n = match settled.path(&mut buffer) {
         Ok(n) => n,
-        Err(refusal) => return no(heap, refusal),
+        Err(refusal) => return format!(in heap; "{refusal}\n"),
     };
     let letter = K::letter();
     let mut out = format!(in heap; "{letter} {cost} {number}\n")?;
@@ -81,7 +67,7 @@ fn under<K: Kind>(heap: Global, bytes: &[u8]) -> Result<String, AllocError>
     let mut draft = Draft::<K>::new();
     match draft.load(bytes) {
         Ok(_) => reading(heap, &draft.settle()),
-        Err(fault) => bad(heap, fault),
+        Err(fault) => format!(in heap; "{fault}\n"),
     }
 }
 

@@ -1,6 +1,6 @@
 // Cutting bytes at separators.
-ghost use Rattle.std.specs.Prelude.{◌≡◌, ℕ, Bool, [], ◌++◌, map, IfOk, OnOk};
-ghost use Rattle.words.specs.Pieces.{ended, pieces_of, spacing, newline, CuttingLaws};
+ghost use Rattle.std.specs.Prelude.{◌≡◌, ℕ, Bool, map, IfOk};
+ghost use Rattle.words.specs.Pieces.{pieces_of, spacing, newline, CuttingLaws};
 
 use std::alloc::{AllocError, Global};
 

@@ -25,7 +25,7 @@ pub fn hex_byte_pairs(heap: Global, word: &[u8]) -> Result<Option<Vec<u8>>, Allo
 {
     let mut bytes = Vec::new(heap);
     let mut rest = word;
-    // a pattern and no `chunks_exact`: what is left in the end shows whether the digits pair up
+    // two digits at a time; what is left in the end shows whether they pair up
     while let [high, low, after @ ..] = rest {
         let Some(byte) = hex_byte(*high, *low) else {
             return Ok(None);

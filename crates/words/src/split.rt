@@ -16,7 +16,7 @@ pub fn split_once<'a>(bytes: &'a [u8], mark: &[u8]) -> Option<(&'a [u8], &'a [u8
     ensures value { option_map parts_of result ≡ split_of mark.now bytes.now }
     ensures rejoins { Rejoins }
 {
-    // a loop and no `find_map`: no lemma of the library says at which item that one stopped
+    // a loop and no `find_map` over the places: tried, and the proof of that form did not close
     for i in 0..bytes.len() {
         if let Some(back) = strip(&bytes[i..], mark) {
             return Some((&bytes[0..i], back));

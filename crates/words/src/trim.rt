@@ -4,7 +4,7 @@ ghost use Rattle.words.specs.Trims.{without_front, without_back, trimmed_of, Sam
 
 use crate::cut::Separator;
 
-// The two ends have a loop each, as in the library's `trim_ascii_start` and `trim_ascii_end`: the pattern differs.
+// The two ends have a loop each: the patterns take from different ends.
 
 // The bytes without the separators at their front.
 fn trim_front<'a, S: Separator>(bytes: &'a [u8]) -> &'a [u8]

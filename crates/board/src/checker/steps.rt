@@ -18,10 +18,7 @@ impl Effect {
     pub(crate) fn is_end(self) -> bool
         ensures { result ≡ is_end self }
     {
-        match self {
-            Effect::Ends => true,
-            _ => false,
-        }
+        matches!(self, Effect::Ends)
     }
 }
 

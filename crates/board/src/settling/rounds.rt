@@ -1,7 +1,7 @@
 // Settling, entry by entry.
 ghost use Rattle.std.specs.Prelude.{◌≡◌, ◌+◌, ◌<◌, [], ◌∷◌, length, None as ANone, slice_index_or};
 ghost use Rattle.board.specs.Held.{held};
-ghost use Rattle.board.specs.Settling.{Settled, diagonal};
+ghost use Rattle.board.specs.Settling.{Settled};
 ghost use Rattle.board.specs.Logged.{pair_of, record_of};
 ghost use Rattle.board.specs.Grown.{Refers};
 ghost use Rattle.board.specs.Logs.{State, Kept, Book, records, standing, Chosen, CostsBest, Reached, RoundMade};
