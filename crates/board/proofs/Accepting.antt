@@ -1,5 +1,6 @@
 -- The check accepts exactly the complete readings with at most 4,096 brackets open at any time.
 use Rattle.std.proofs.Common.{◌≡◌, ℕ, suc, ◌<◌, ◌≤◌, Bool, true, false, cond, eqb, ltb, ◌↔◌, List, [], ◌∷◌, ◌++◌, map, length, Some, None, Ok, Err, Option, Result, sym, refl, ap, ◌∙◌, subst, arith}
+use Rattle.std.proofs.lemmas.Option.{none-some, same_Some}
 use Rattle.std.proofs.lemmas.Bool.{both_ways, or_parts, or_from, not-false, not_from_true, ltb-true, lt-ltb, cond-true, cond-false}
 use Rattle.costs.specs.Meaning.{Meaning}
 use Rattle.costs.specs.Lists.{joined_onto}
@@ -8,6 +9,7 @@ use Rattle.board.specs.declared.moves.Effect.{Effect}
 use Rattle.board.specs.declared.moves.Effect.TheVariants.{Quiet, Opens, Closes, Ends}
 use Rattle.board.specs.declared.moves.Arrival.{Arrival}
 use Rattle.board.specs.declared.named.Named.{Named}
+use Rattle.board.specs.declared.check.Fault.{Fault}
 use Rattle.board.specs.declared.refusal.Refusal.{Refusal}
 use Rattle.board.specs.declared.refusal.Refusal.TheVariants.{TooDeep, BadBracket}
 use Rattle.board.specs.Content.{Content}
@@ -15,10 +17,9 @@ use Rattle.board.specs.Moves.{Place, Transition}
 use Rattle.board.specs.Paths.{Path, stop, go, stack, Running}
 use Rattle.board.specs.Packing.{unpacked}
 use Rattle.board.specs.Arrivals.{named, leads}
-use Rattle.board.specs.Checks.{bracketed, Progress, start, arrived, take_named, named_by_number, take_move, or_fault, checked_from, check_answer, ShallowFrom, PacksReading}
+use Rattle.board.specs.Checks.{bracketed, Progress, start, arrived, take_named, named_by_number, take_move, or_fault, checked_from, check_answer, ShallowFrom, PacksReading, AcceptsReadings}
 use Rattle.board.specs.Moves.{is_end}
-use Rattle.board.proofs.Elements.{no_some}
-use Rattle.board.proofs.Naming.{some_in, named_goes, goes_named}
+use Rattle.board.proofs.Naming.{named_goes, goes_named}
 use Rattle.board.proofs.Balance.{body_stack, stack_body}
 
 err_ok : {A E : Type 0} (e : E) (x : A) → Err e ≡ Ok x → ⊥
@@ -131,7 +132,7 @@ still_few Ends [] st' h b = let l : 0 ≡ length st' = ap length (ok_in [] st' b
 still_few Ends (x ∷ st) st' h b = absurd (err_ok _ st' b)
 
 shallow_more : (e : Effect) (es : List Effect) (st st' : List ℕ) → is_end e ≡ false → bracketed e st ≡ Ok st' → length st ≤ 4096 → ShallowFrom st' es → ShallowFrom st (e ∷ es)
-shallow_more e es st st' n b few s [] rest o f k = let l : length st ≡ length o = ap length (some_in _ _ k) in omega arith
+shallow_more e es st st' n b few s [] rest o f k = let l : length st ≡ length o = ap length (same_Some _ _ k) in omega arith
 shallow_more e es st st' n b few s (x ∷ front) rest o f k =
     let y : x ≡ e = sym (same_head _ _ _ _ f) in
     s front rest o (same_tail _ _ _ _ f) (sym (stack_one e front st st' n b) ∙ ap (λ z. stack (z ∷ front) st) (sym y) ∙ k)
@@ -169,12 +170,12 @@ no_packs (x ∷ xs) e = absurd (let z : ◌≡◌ {A = ℕ} 0 1 = cc in omega ar
 opened_one : (e : Effect) (es : List Effect) (st : List ℕ) → is_end e ≡ false → stack (e ∷ es) st ≡ Some [] → ShallowFrom st (e ∷ es) → (st' : List ℕ) × (bracketed e st ≡ Ok st')
 opened_one Quiet es st n s d = (st, refl)
 opened_one (Opens a) es st n s d = let z = d (Opens a ∷ []) es (a ∷ st) refl refl in let l : length st < 4096 = omega arith in (a ∷ st, cond-true _ _ _ (lt-ltb _ _ l))
-opened_one (Closes a) es [] n s d = absurd (no_some [] s)
+opened_one (Closes a) es [] n s d = absurd (none-some [] s)
 opened_one (Closes a) es (x ∷ st) n s d = same (eqb x a) s
   where
     same : (t : Bool) → cond t (stack es st) None ≡ Some [] → (st' : List ℕ) × (cond t (Ok st) (Err BadBracket) ≡ Ok st')
     same true f = (st, refl)
-    same false f = absurd (no_some [] f)
+    same false f = absurd (none-some [] f)
 opened_one Ends es st n s d = absurd (both_ways _ n refl)
 
 stack_empty : (st : List ℕ) → stack [] st ≡ Some [] → st ≡ []
@@ -218,7 +219,7 @@ module _ {m : Meaning} {c : Content} where
       }
     where
       none : length w.unclosed ≤ 4096 → (front rest : List Effect) (o : List ℕ) → [] ≡ front ++ rest → stack front w.unclosed ≡ Some o → length o ≤ 4096
-      none few [] rest o f l = let n : length w.unclosed ≡ length o = ap length (some_in _ _ l) in omega arith
+      none few [] rest o f l = let n : length w.unclosed ≡ length o = ap length (same_Some _ _ l) in omega arith
       none few (y ∷ front) rest o f l = absurd (no_cons _ _ f)
 
   rest_more : (w w' : Progress) (x : ℕ) (xs : List ℕ) (k : ℕ) → (s : Took m c w x w') → w'.ended ≡ false → length w.unclosed ≤ 4096 → Rest m c w'.place w'.unclosed w'.cost xs k → Rest m c w.place w.unclosed w.cost (x ∷ xs) k
@@ -311,3 +312,7 @@ module _ {m : Meaning} {c : Content} where
       back h =
           accepted h.complete.body h.complete.path refl h.complete.running [] (body_stack h.complete.body h.complete.balanced) h.shallow xs h.packs 0 m.free
           ∙ ap Ok (sym h.complete.price)
+
+-- what an answer of the check says of the moves
+pub answer_accepts : {m : Meaning} {c : Content} (xs : List ℕ) (r : Result ℕ Fault) → r ≡ check_answer m c xs → AcceptsReadings m c xs r
+answer_accepts {m} {c} xs r e = subst (AcceptsReadings m c xs) (sym e) (accepts xs)

@@ -1,5 +1,6 @@
 -- A record has no more brackets open at once than there were rounds, and so the check accepts the recorded reading.
 use Rattle.std.proofs.Common.{◌≡◌, ℕ, suc, ◌+◌, ◌≤◌, Bool, true, false, cond, eqb, ◌⊎◌, List, [], ◌∷◌, ◌++◌, map, length, Some, None, sym, refl, ap, ◌∙◌, subst, inl, inr, ⊎_elim, append_assoc, mul-le-mul, arith}
+use Rattle.std.proofs.lemmas.Option.{none-some}
 use Rattle.costs.specs.Meaning.{Meaning, Lawful}
 use Rattle.board.specs.declared.moves.Move.{Move}
 use Rattle.board.specs.declared.moves.Effect.{Effect}
@@ -12,7 +13,6 @@ use Rattle.board.specs.Checks.{ShallowFrom}
 use Rattle.board.specs.Settling.{In, Record, start_record, diagonal, Candidate, step, call, Rounds, begin, round, Settled, ReadingBy}
 use Rattle.board.specs.Computing.{pair_count}
 use Rattle.board.specs.Promises.{RecordedIsChecked}
-use Rattle.board.proofs.Elements.{no_some}
 use Rattle.board.proofs.Membership.{some_eq}
 use Rattle.board.proofs.Balance.{over_dyck, stack_brackets, brackets-++}
 use Rattle.board.proofs.Diagonal.{started}
@@ -69,10 +69,10 @@ module _ (n : ℕ) where
     where
       matched : (t : Bool) (st : List ℕ) → cond t (stack front st) None ≡ Some o → length o ≤ n + length st
       matched true st s = h front rest st o (same_tail _ _ _ _ e) s
-      matched false st s = absurd (no_some o s)
+      matched false st s = absurd (none-some o s)
 
       closed : (st : List ℕ) → stack (Closes b ∷ front) st ≡ Some o → length o ≤ n + length st
-      closed [] s = absurd (no_some o s)
+      closed [] s = absurd (none-some o s)
       closed (x ∷ st) s = let k = matched (eqb x b) st s in omega arith
 
   within_both : (a b : List Effect) → Balanced a → DepthWithin n a → DepthWithin n b → DepthWithin n (a ++ b)

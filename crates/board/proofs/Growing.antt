@@ -57,12 +57,6 @@ pair_parts c s q s' q' small on on' e = let h = number_in c q small on in let h'
 kept_test : {m : Meaning} (c : Content) (laws : Lawful m) (f r : Entry) → Cost m f.cost → Cost m r.cost → (place_number c f.from ≡ place_number c r.from) × (place_number c f.to ≡ place_number c r.to) → Decided (keeps? m (Some f) r) (Precedes m c (record_of [] f) (record_of [] r)) (Precedes m c (record_of [] r) (record_of [] f))
 kept_test {m} c laws f r hf hr e = first (m.no_dearer r.cost f.cost) refl (m.no_dearer f.cost r.cost) refl (lex_test (derivation_key (derivation_of f.source)) (derivation_key (derivation_of r.source)))
   where
-    kf : List ℕ
-    kf = derivation_key (derivation_of f.source)
-
-    kr : List ℕ
-    kr = derivation_key (derivation_of r.source)
-
     first : (s : Bool) → m.no_dearer r.cost f.cost ≡ s → (t : Bool) → m.no_dearer f.cost r.cost ≡ t → Decided (lex? (derivation_key (derivation_of f.source)) (derivation_key (derivation_of r.source))) (Lex (derivation_key (derivation_of f.source)) (derivation_key (derivation_of r.source))) (Lex (derivation_key (derivation_of r.source)) (derivation_key (derivation_of f.source))) → Decided (cond s (cond t (lex? (derivation_key (derivation_of f.source)) (derivation_key (derivation_of r.source))) false) true) (Precedes m c (record_of [] f) (record_of [] r)) (Precedes m c (record_of [] r) (record_of [] f))
     first false g t h d = inl (refl, inl g)
     first true g false h d = inr (refl, inl h)

@@ -12,7 +12,6 @@ use Rattle.board.specs.Logged.{pair_of, logged}
 use Rattle.board.specs.Logs.{Book, numbered, records, nth_record}
 use Rattle.board.specs.Settling.{Settled as SettledLog}
 use Rattle.board.specs.Boards.{settled_content, settled_records}
-use Rattle.board.specs.Spelled.{Spells}
 use Rattle.board.specs.Computing.{joins?, record_between}
 use Rattle.board.proofs.Finding.{joins_parts}
 use Rattle.board.proofs.Growing.{place_below, number_in}
@@ -22,9 +21,6 @@ use Rattle.board.proofs.Promised.{settling_computed}
 -- a settled board's log is settled
 pub settled_of : {K : Type 0} {k : Ghosts K} → Lawful k.meaning → (s : Settled K k) → SettledLog k.meaning (settled_content s) (settled_records s)
 settled_of {k = k} laws s = subst (SettledLog k.meaning (settled_content s)) (sym s.settled) (settling_computed k.meaning (settled_content s) laws s.tables.sound).settled
-
-pub spells : {m : Meaning} {c : Content} {l : Log} → Book m c l → Spells l
-spells b = record { room = b.room; earlier = b.earlier; lengths_are = b.lengths_are }
 
 -- the entries before n, of which the one numbered i alone is of the pair
 between_at : (c : Content) (l : Log) (s q i n : ℕ) → i < n → ((j : ℕ) → j < n → joins? c (nth_record l j) s q ≡ true → j ≡ i) → joins? c (nth_record l i) s q ≡ true → record_between c (logged l.entries n) s q ≡ Some (nth_record l i)

@@ -1,5 +1,6 @@
 -- Every call on a draft keeps its content sound.
 use Rattle.std.proofs.Common.{◌≡◌, ℕ, ◌*◌, ◌<◌, ◌≤◌, Bool, true, false, cond, List, length, Some, None, Option, sym, refl, ◌∙◌, subst, ⊎_elim, arith, length-append}
+use Rattle.std.proofs.lemmas.Option.{none-some}
 use Rattle.std.proofs.lemmas.Bool.{or_parts, not-false, eqb-true, eqb-false, ltb-false, leb-false}
 use Rattle.costs.specs.Meaning.{Meaning, Cost}
 use Rattle.board.specs.declared.row.RowKind.{RowKind}
@@ -11,11 +12,11 @@ use Rattle.board.specs.Refusals.{first, unless}
 use Rattle.board.specs.Rows.{formed}
 use Rattle.board.specs.Content.{Content, new, Sound, SoundRow, SoundLine}
 use Rattle.board.specs.Calls.{size_fault, with_size, size_after, row_fault, with_row, row_after, line_faults, line_fault, with_line, line_after, reprice_fault, row_at_cost, line_at_cost, with_row_cost, with_line_cost, reprice_row_after, reprice_line_after, without_lines, CallsKeep}
-use Rattle.board.proofs.Elements.{no_some, some_no, nth_push, nth_changed, nth_empty, length_changed, factors}
+use Rattle.board.proofs.Elements.{nth_push, nth_changed, nth_empty, length_changed, factors}
 
 -- where none of the reasons applies, the first does not, nor do the others
 pub none_first : {A : Type 0} (b : Bool) (e : A) (o : Option A) → cond b (Some e) o ≡ None → (b ≡ false) × (o ≡ None)
-none_first true e o h = absurd (some_no e h)
+none_first true e o h = absurd (none-some e (sym h))
 none_first false e o h = (refl, h)
 
 pub unless_keeps : {X : Type 0} (P : X → Type 0) (o : Option Refusal) (done old : X) → (o ≡ None → P done) → P old → P (unless o done old)
@@ -49,8 +50,8 @@ module _ (m : Meaning) where
     few_places = omega arith;
     few_rows = omega arith;
     few_lines = omega arith;
-    sound_rows = λ i r e. absurd (no_some r e);
-    sound_lines = λ i l e. absurd (no_some l e);
+    sound_rows = λ i r e. absurd (none-some r e);
+    sound_lines = λ i l e. absurd (none-some l e);
   }
 
   -- what a size that is not refused says
@@ -191,7 +192,7 @@ module _ (m : Meaning) where
     few_rows = h.few_rows;
     few_lines = omega arith;
     sound_rows = λ i x e. row_on c (without_lines c) x refl (h.sound_rows i x e);
-    sound_lines = λ i l e. absurd (no_some l e);
+    sound_lines = λ i l e. absurd (none-some l e);
   }
 
 pub calls_keep : (m : Meaning) → CallsKeep m

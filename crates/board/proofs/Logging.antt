@@ -9,10 +9,6 @@ use Rattle.board.specs.declared.log.Source.TheVariants.{Start, Step, Call}
 use Rattle.board.specs.Logged.{settled_as, spelled, derivation_of, record_of, blank, logged, record_at}
 use Rattle.board.specs.Grown.{Refers}
 
-pub logged_more : (rs : List Entry) (n : ℕ) → logged rs (suc n) ≡ record_at rs n ∷ logged rs n
-unfolding logged
-logged_more rs n = refl
-
 pub logged_none : (rs : List Entry) → logged rs 0 ≡ []
 unfolding logged
 logged_none rs = refl

@@ -1,5 +1,6 @@
 -- Adding, and repricing no dearer, eases a content.
 use Rattle.std.proofs.Common.{◌≡◌, ℕ, zero, suc, ◌⊎◌, List, [], ◌∷◌, ◌++◌, Some, Option, refl, ◌∙◌, subst, inl, inr, ⊎_elim}
+use Rattle.std.proofs.lemmas.Option.{none-some}
 use Rattle.std.specs.List.{slice_get}
 use Rattle.costs.specs.Meaning.{Meaning, Lawful, NoDearer}
 use Rattle.board.specs.declared.row.Row.{Row}
@@ -7,14 +8,13 @@ use Rattle.board.specs.declared.row.Line.{Line}
 use Rattle.board.specs.Content.{Content, Sound}
 use Rattle.board.specs.Calls.{changed, row_at_cost, line_at_cost, with_row, with_line, with_row_cost, with_line_cost}
 use Rattle.board.specs.Ease.{Eased, EasedRow, EasedLine, CallsEase}
-use Rattle.board.proofs.Elements.{no_some}
 use Rattle.board.proofs.Laws.{no_dearer_same}
 
 same_element : {A : Type 0} (o : Option A) (x y : A) → o ≡ Some x → o ≡ Some y → x ≡ y
 same_element o x y e f = cc
 
 nth_stays : {A : Type 0} (xs : List A) (x : A) (i : ℕ) (y : A) → slice_get xs i ≡ Some y → slice_get (xs ++ (x ∷ [])) i ≡ Some y
-nth_stays [] x i y e = absurd (no_some y e)
+nth_stays [] x i y e = absurd (none-some y e)
 nth_stays (z ∷ xs) x zero y e = e
 nth_stays (z ∷ xs) x (suc i) y e = nth_stays xs x i y e
 

@@ -1,17 +1,16 @@
 -- What cost and path tell of the reading that was found.
-use Rattle.std.proofs.Common.{◌≡◌, ℕ, ◌+◌, ◌<◌, ◌≤◌, min, true, false, leb, ◌⊎◌, List, [], ◌∷◌, ◌++◌, map, length, get_or, drop, set, Some, Ok, Err, Option, sym, ap, ◌∙◌, ap₂, inl, inr, arith, length-append}
-use Rattle.std.proofs.lemmas.Bool.{cond-true, cond-false, and_from, and_left, and_right, le-leb, lt-leb}
+use Rattle.std.proofs.Common.{◌≡◌, ℕ, ◌+◌, ◌<◌, ◌≤◌, min, true, leb, List, [], ◌∷◌, ◌++◌, map, length, get_or, drop, set, Some, Ok, Option, sym, ap, ◌∙◌, ap₂, arith, length-append}
+use Rattle.std.proofs.lemmas.Bool.{cond-true, and_from, le-leb}
 use Rattle.std.proofs.lemmas.List.{append_assoc, map-append, length-map, drop_more, set_at}
 use Rattle.board.specs.declared.moves.Move.{Move}
 use Rattle.board.specs.declared.log.Log.{Log}
 use Rattle.board.specs.declared.reading.Reading.{Reading}
-use Rattle.board.specs.declared.refusal.Refusal.TheVariants.{TooLong}
 use Rattle.board.specs.Packing.{packed}
 use Rattle.board.specs.Settling.{bare}
 use Rattle.board.specs.Logs.{nth_record}
 use Rattle.board.specs.Computing.{ReadingFound}
 use Rattle.board.specs.Boards.{reading_of}
-use Rattle.board.specs.Questions.{cost_told, fits, path_told, path_written}
+use Rattle.board.specs.Questions.{fits, path_told, path_written}
 
 module _ (l : Log) (r : Reading) (o : Option ReadingFound) (is : reading_of l (Some r) ≡ o) (k : ℕ) (measured : k ≡ min (length (nth_record l r.entry).moves) 65536) where
   moves : List Move
@@ -22,32 +21,6 @@ module _ (l : Log) (r : Reading) (o : Option ReadingFound) (is : reading_of l (S
 
   one_more : length ((nth_record l r.entry).moves ++ (bare r.row ∷ [])) ≡ length (nth_record l r.entry).moves + 1
   one_more = length-append (nth_record l r.entry).moves (bare r.row ∷ [])
-
-  pub cost_some : (n : ℕ) → n ≡ min (k + 1) 65536 → Ok (r.cost, n) ≡ cost_told o
-  cost_some n e =
-      let h = one_more in
-      let z : n ≡ min (length ((nth_record l r.entry).moves ++ (bare r.row ∷ []))) 65536 = omega arith in
-      ap (λ x. Ok (r.cost, x)) z ∙ ap cost_told is
-
-  -- too long for the buffer, or for any
-  long_test : (buffer : List ℕ) → (length buffer ≤ k) ⊎ (65535 ≤ k) → fits the_found buffer ≡ false
-  unfolding the_found
-  long_test buffer (inl h) =
-      let n = one_more in
-      let all = length ((nth_record l r.entry).moves ++ (bare r.row ∷ [])) in
-      let over : length buffer < all = omega arith in
-      and_left (leb all (length buffer)) (leb all 65535) (lt-leb _ _ over)
-  long_test buffer (inr h) =
-      let n = one_more in
-      let all = length ((nth_record l r.entry).moves ++ (bare r.row ∷ [])) in
-      let over : 65535 < all = omega arith in
-      and_right (leb all (length buffer)) (leb all 65535) (lt-leb _ _ over)
-
-  pub path_long : (buffer : List ℕ) → (length buffer ≤ k) ⊎ (65535 ≤ k) → (Err TooLong ≡ path_told o buffer) × (buffer ≡ path_written o buffer)
-  unfolding the_found
-  path_long buffer h =
-      let t = long_test buffer h in
-      (sym (cond-false _ _ _ t) ∙ ap (λ x. path_told x buffer) is, sym (cond-false _ _ _ t) ∙ ap (λ x. path_written x buffer) is)
 
   -- it fits
   fits_test : (buffer : List ℕ) → k < length buffer → k < 65535 → fits the_found buffer ≡ true

@@ -24,7 +24,7 @@ loop-n-preserved g c =
     let s = c.args.self.now in
     (rows_more g.K.Kind.meaning (held s.tables) (records s.log) _ _ _ _ _ c.deref-row-items.ensures.0 c.loop-n-test.true c.loop-moment.auto.moment-end c.loop-moment-test.false c.loop-moment.invariant.0, c.loop-moment.invariant.1)
 
-pub returns : goal.returns
-returns g c =
+pub returns-clause-which : goal.returns-clause-which
+returns-clause-which g c =
     let s = c.args.self.now in
-    record { which = rows_all g.K.Kind.meaning (held s.tables) (records s.log) _ _ _ c.deref-row-items.ensures.0 c.loop-n.auto.n-end c.loop-n-test.false c.loop-n.invariant.0; within = c.loop-n.invariant.1 }
+    rows_all g.K.Kind.meaning (held s.tables) (records s.log) _ _ _ c.deref-row-items.ensures.0 c.loop-n.auto.n-end c.loop-n-test.false c.loop-n.invariant.0

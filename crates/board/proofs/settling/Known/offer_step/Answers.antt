@@ -6,15 +6,6 @@ use Rattle.board.specs.Logged.{pair_of}
 use Rattle.board.specs.Logs.{numbered}
 use Rattle.board.proofs.Offering.{arrival_lands, pair_room, step_one}
 
-pub offset_bounds-self-i : goal.offset_bounds-self-i
-offset_bounds-self-i g c = let h = c.args.self.now.book.room in omega arith
-
-pub bounds-self-i : goal.bounds-self-i
-bounds-self-i g c = let h = c.args.self.now.book.room in omega arith
-
-pub overflow_cast-r : goal.overflow_cast-r
-overflow_cast-r g c = let h = c.args.self.now.book.room in omega arith
-
 pub offer-requires : goal.offer-requires
 offer-requires g c =
     let a = numbered c.args.self.now.log.now c.args.i in

@@ -3,20 +3,8 @@ use Rattle.board.proofs.settling.Known.offer_steps.Goals as goal
 use Rattle.std.proofs.Common.{ℕ, length, arith}
 use Rattle.board.specs.Settling.{Record}
 use Rattle.board.specs.Logs.{RowSteps, LineStep}
-use Rattle.board.proofs.Growing.{grown_none, grown_more, grown_then, grown_for, upto_eq}
+use Rattle.board.proofs.Growing.{grown_more, grown_then, grown_for, upto_eq}
 use Rattle.board.proofs.Stepping.{row_split, steps_in}
-
-pub loop-row-init : goal.loop-row-init
-loop-row-init g c = grown_none (RowSteps g.K.Kind.meaning (held c.args.self.now.tables.now) c.args.self.now.log.now c.args.i) c.requires.ok
-
-pub offer_step-requires : goal.offer_step-requires
-offer_step-requires g c = record { within = c.requires.within; ok = c.loop-row.invariant.ok }
-
-pub loop-line-init : goal.loop-line-init
-loop-line-init g c = grown_none (LineStep g.K.Kind.meaning (held c.args.self.now.tables.now) c.args.self.now.log.now c.args.i c.loop-row.row) c.offer_step.ensures.ok
-
-pub offer_step-requires-in-loop-line : goal.offer_step-requires-in-loop-line
-offer_step-requires-in-loop-line g c = record { within = c.requires.within; ok = c.loop-line.invariant.ok }
 
 pub loop-line-preserved : goal.loop-line-preserved
 loop-line-preserved g c = grown_more (LineStep g.K.Kind.meaning (held c.args.self.now.tables.now) c.args.self.now.log.now c.args.i c.loop-row.row) c.loop-line.line c.loop-line.invariant c.offer_step-in-loop-line.ensures
