@@ -21,8 +21,8 @@ use Rattle.board.specs.Logs.{numbered, Ready, Opened, CallsIn, CallsTo, CallsAt,
 use Rattle.board.proofs.Growing.{number_in}
 
 -- what was read at an index that is within the list
-pub got : {A : Type 0} (xs ys : List A) (i : ℕ) (x d : A) → ys ≡ xs → true ≡ nat_lt i (length ys) → x ≡ get_or ys i d → slice_get xs i ≡ Some x
-got xs ys i x d same within is = ap (λ zs. slice_get zs i) (sym same) ∙ slice_get-get_or ys i d (ltb-true i (length ys) (sym within)) ∙ ap Some (sym is)
+pub got : {A : Type 0} {xs ys : List A} {x : A} (i : ℕ) (d : A) → ys ≡ xs → true ≡ nat_lt i (length ys) → x ≡ get_or ys i d → slice_get xs i ≡ Some x
+got {xs = xs} {ys} i d same within is = ap (λ zs. slice_get zs i) (sym same) ∙ slice_get-get_or ys i d (ltb-true i (length ys) (sym within)) ∙ ap Some (sym is)
 
 -- what was read at a number that is p
 seen : {A : Type 0} (f : ℕ → A) (n p : ℕ) (x o : A) → n ≡ p → x ≡ f n → x ≡ o → f p ≡ o

@@ -10,10 +10,10 @@ use Rattle.board.specs.Entries.{EntryIn}
 use Rattle.board.proofs.Holding.{index_some, index_none, place_none}
 use Rattle.board.proofs.settled.Settled.entry_of.Goals as goal
 
-pub returns-then-from-places : goal.returns-then-from-places
-returns-then-from-places g c =
+pub returns-then-from-places-clause-which : goal.returns-then-from-places-clause-which
+returns-then-from-places-clause-which g c =
     let x = c.args.self.now in
-    record { which = sym (place_none (held x.tables) x.log x.book c.args.from c.args.to (⊎_elim (λ h. inl h) (λ h. inr h.1) c.then-from-places.either)); within = tt }
+    sym (place_none (held x.tables) x.log x.book c.args.from c.args.to (⊎_elim (λ h. inl h) (λ h. inr h.1) c.then-from-places.either))
 
 -- what the index says, by cases
 at_index : {m : Meaning} (c : Content) (l : Log) → Book m c l → c.modes * c.moments ≤ 64 → (s q : ℕ) → q < 64 → (o r : Option ℕ) → get_or l.index (s * 64 + q) None ≡ o → r ≡ o → (entry_record l r ≡ record_between c (records l) s q) × EntryIn l.count r

@@ -50,4 +50,4 @@ loop-u-preserved g c =
 pub returns : goal.returns
 returns g c =
     let a = c.args.self.now in
-    grown_for (upto_eq (CallsTo g.K.Kind.meaning (held a.tables.now) a.log.now c.args.i c.args.row) _ _ c.loop-u.auto.u-end c.loop-u-test.false c.loop-u.invariant) (insides_all g.met.K.Kind.lawful (ready_of a) c.args.i c.args.row)
+    grown_for (upto_eq _ _ _ c.loop-u.auto.u-end c.loop-u-test.false c.loop-u.invariant) (insides_all g.met.K.Kind.lawful (ready_of a) c.args.i c.args.row)
