@@ -31,11 +31,9 @@ module _ {m : Meaning} {c : Content} {l : Log} (laws : Lawful m) (ready : Ready 
   pub all_based : Based c (records l)
   all_based a h = let r = logged_in l.entries l.count a h in subst (λ (x : Record). On c x.from) (sym r.2) (ready.book.kept r.0 r.1).from_on
 
-  pub arrival_lands : (v : Move) (p : Place) (h : Arrival) → arrival_on m c v p ≡ Some h → On c h.to
-  arrival_lands v p h e = transition_on laws ready.sound (arrival_transition m c v p h e)
-
-  pub pair_room : (s q : Place) → On c s → On c q → pair_of c s q < 4096
-  pair_room s q on on' = pair_in c s q ready.sound.few_places on on'
+  -- the pair of a record and where an arrival leads
+  pub arrival_room : (i : ℕ) → i < l.count → (v : Move) (p : Place) (h : Arrival) → arrival_on m c v p ≡ Some h → pair_of c (numbered l i).from h.to < 4096
+  arrival_room i within v p h e = pair_in c (numbered l i).from h.to ready.sound.few_places (ready.book.kept i within).from_on (transition_on laws ready.sound (arrival_transition m c v p h e))
 
   -- one record that is a candidate, and all that P says is that
   one : {best best' : List (Option Entry)} (r : Entry) {P : Record → Type 0} → BestKept m c l best → Offers m c (records l) r → ((y : Record) → P y → y ≡ record_of (records l) r) → best' ≡ offered m best (pair_of c r.from r.to) r → Grows m c l best best' P

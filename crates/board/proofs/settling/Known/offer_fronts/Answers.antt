@@ -1,8 +1,5 @@
-use Rattle.std.proofs.Common.{ℕ, List, Option, sym, ap, ◌∙◌, subst, arith}
-use Rattle.board.specs.declared.log.Entry.{Entry}
-use Rattle.board.specs.Settling.{Record}
-use Rattle.board.specs.Held.{held}
-use Rattle.board.specs.Logs.{Grows, numbered, CallsAt}
+use Rattle.std.proofs.Common.{ℕ, ap, ◌∙◌, arith}
+use Rattle.board.specs.Logs.{numbered}
 use Rattle.board.proofs.Growing.{grown_same, grown_more, grown_for, upto_eq}
 use Rattle.board.proofs.Knowing.{ready_of}
 use Rattle.board.proofs.Calling.{got, front_small, front_in, front_opened, front_hit, front_miss, fronts_all, fronts_none}
@@ -41,14 +38,10 @@ offer_closes-requires-clause-opened g c =
 pub loop-s-preserved : goal.loop-s-preserved
 loop-s-preserved g c =
     let a = c.args.self.now in
-    let Q : ℕ → Record → Type 0 = CallsAt g.K.Kind.meaning (held a.tables.now) a.log.now c.args.j c.args.row in
-    let G : List (Option Entry) → Type 0 = λ b. Grows g.K.Kind.meaning (held a.tables.now) a.log.now c.loop-s.best b (Q c.loop-s.s) in
-    let one : G c.match-at.best =
-    elim c.match-at.branch [
-      | in-Some-at w ↦ subst G (sym w.best-is) (grown_for w.offer_closes.ensures (front_hit g.met.K.Kind.lawful (ready_of a) c.args.j c.args.row c.requires.within c.in-Some.open.now (got _ _ c.deref.ensures.0 c.in-Some.ensures.lookup.0 c.in-Some.ensures.lookup.1) c.loop-s.s c.place_number-stop.ensures.number c.at.ensures w.in-Some-at.i w.in-Some-at.is))
-      | in_default-at w ↦ subst G (sym w.best-is) (grown_same c.loop-s.invariant.ok (front_miss g.met.K.Kind.lawful (ready_of a) c.args.j c.args.row c.requires.within c.in-Some.open.now (got _ _ c.deref.ensures.0 c.in-Some.ensures.lookup.0 c.in-Some.ensures.lookup.1) c.loop-s.s c.place_number-stop.ensures.number c.at.ensures w.in_default-at.is))
-    ] in
-    grown_more Q c.loop-s.s c.loop-s.invariant one
+    grown_more _ _ c.loop-s.invariant (elim c.match-at.branch [
+      | in-Some-at w ↦ rw w.best-is (grown_for w.offer_closes.ensures (front_hit g.met.K.Kind.lawful (ready_of a) c.args.j c.args.row c.requires.within c.in-Some.open.now (got _ _ c.deref.ensures.0 c.in-Some.ensures.lookup.0 c.in-Some.ensures.lookup.1) c.loop-s.s c.place_number-stop.ensures.number c.at.ensures w.in-Some-at.i w.in-Some-at.is))
+      | in_default-at w ↦ rw w.best-is (grown_same c.loop-s.invariant.ok (front_miss g.met.K.Kind.lawful (ready_of a) c.args.j c.args.row c.requires.within c.in-Some.open.now (got _ _ c.deref.ensures.0 c.in-Some.ensures.lookup.0 c.in-Some.ensures.lookup.1) c.loop-s.s c.place_number-stop.ensures.number c.at.ensures w.in_default-at.is))
+    ])
 
 pub returns : goal.returns
 returns g c =

@@ -1,10 +1,7 @@
 use Rattle.board.proofs.settling.Known.offer_insides.Goals as goal
-use Rattle.std.proofs.Common.{ℕ, List, Option, sym, ap, ◌∙◌, subst, arith}
-use Rattle.board.specs.declared.log.Entry.{Entry}
-use Rattle.board.specs.Settling.{Record}
-use Rattle.board.specs.Held.{held}
+use Rattle.std.proofs.Common.{ℕ, ap, ◌∙◌, arith}
 use Rattle.board.proofs.Knowing.{ready_of}
-use Rattle.board.specs.Logs.{Grows, numbered, CallsTo}
+use Rattle.board.specs.Logs.{numbered}
 use Rattle.board.proofs.Growing.{grown_same, grown_more, grown_for, upto_eq}
 use Rattle.board.proofs.Calling.{way_small, inside_in, inside_opened, inside_hit, inside_miss, insides_all, insides_none}
 use Rattle.board.proofs.settling.Known.offer_insides.Goals.{in-Some-at, in_default-at}
@@ -38,14 +35,10 @@ offer_closes-requires-clause-opened g c =
 pub loop-u-preserved : goal.loop-u-preserved
 loop-u-preserved g c =
     let a = c.args.self.now in
-    let Q : ℕ → Record → Type 0 = CallsTo g.K.Kind.meaning (held a.tables.now) a.log.now c.args.i c.args.row in
-    let G : List (Option Entry) → Type 0 = λ b. Grows g.K.Kind.meaning (held a.tables.now) a.log.now c.loop-u.best b (Q c.loop-u.u) in
-    let one : G c.match-at.best =
-    elim c.match-at.branch [
-      | in-Some-at w ↦ subst G (sym w.best-is) (grown_for w.offer_closes.ensures (inside_hit g.met.K.Kind.lawful (ready_of a) c.args.i c.args.row c.requires.within c.in-Some.w c.in-Some.ensures c.loop-u.u c.place_number-start.ensures.number c.at.ensures w.in-Some-at.j w.in-Some-at.is))
-      | in_default-at w ↦ subst G (sym w.best-is) (grown_same c.loop-u.invariant.ok (inside_miss g.met.K.Kind.lawful (ready_of a) c.args.i c.args.row c.requires.within c.in-Some.w c.in-Some.ensures c.loop-u.u c.place_number-start.ensures.number c.at.ensures w.in_default-at.is))
-    ] in
-    grown_more Q c.loop-u.u c.loop-u.invariant one
+    grown_more _ _ c.loop-u.invariant (elim c.match-at.branch [
+      | in-Some-at w ↦ rw w.best-is (grown_for w.offer_closes.ensures (inside_hit g.met.K.Kind.lawful (ready_of a) c.args.i c.args.row c.requires.within c.in-Some.w c.in-Some.ensures c.loop-u.u c.place_number-start.ensures.number c.at.ensures w.in-Some-at.j w.in-Some-at.is))
+      | in_default-at w ↦ rw w.best-is (grown_same c.loop-u.invariant.ok (inside_miss g.met.K.Kind.lawful (ready_of a) c.args.i c.args.row c.requires.within c.in-Some.w c.in-Some.ensures c.loop-u.u c.place_number-start.ensures.number c.at.ensures w.in_default-at.is))
+    ])
 
 pub returns : goal.returns
 returns g c =

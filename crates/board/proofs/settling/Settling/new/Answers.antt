@@ -1,6 +1,6 @@
-use Rattle.std.proofs.Common.{◌≡◌, ℕ, sym, ap, ◌∙◌, subst, arith}
+use Rattle.std.proofs.Common.{◌≡◌, ℕ, ap, ◌∙◌, arith}
 use Rattle.board.specs.Held.{held}
-use Rattle.board.specs.Settling.{Rounds, begin, starts, places, diagonal}
+use Rattle.board.specs.Settling.{begin, starts, places, diagonal}
 use Rattle.board.specs.Logs.{records}
 use Rattle.board.proofs.Starting.{start_fresh}
 use Rattle.board.proofs.settling.Settling.new.Goals as goal
@@ -14,4 +14,4 @@ returns-clause-reached g c =
     let t = c.args.tables.now in
     let z : c.loop-mode.mode ≡ t.modes = omega arith in
     let all : records c.loop-mode.settling.log ≡ diagonal m (held t) = c.loop-mode.invariant.1 ∙ ap (λ (n : ℕ). starts m (places n t.moments)) z in
-    (0, subst (Rounds m (held t) 0) (sym all) begin)
+    (0, rw all begin)

@@ -1,6 +1,5 @@
-use Rattle.std.proofs.Common.{suc, sym, refl, subst}
-use Rattle.board.specs.Held.{held}
-use Rattle.board.specs.Settling.{Rounds, round}
+use Rattle.std.proofs.Common.{suc, refl}
+use Rattle.board.specs.Settling.{round}
 use Rattle.board.proofs.Choosing.{best_costs, none_left, round_kept, round_refers, round_is}
 use Rattle.board.proofs.settling.Settling.round.Goals as goal
 
@@ -19,7 +18,7 @@ settle-requires-clause-refers g c = round_refers g.met.K.Kind.lawful c.requires.
 pub returns-clause-reached : goal.returns-clause-reached
 returns-clause-reached g c =
     let added = round_is g.met.K.Kind.lawful c.requires.state c.in-Some.r c.in-Some.ensures in
-    (suc c.requires.reached.0, subst (Rounds g.K.Kind.meaning (held c.args.tables.now) (suc c.requires.reached.0)) (sym c.settle.ensures.more) (round c.requires.reached.1 added))
+    (suc c.requires.reached.0, rw c.settle.ensures.more (round c.requires.reached.1 added))
 
 pub returns-clause-made : goal.returns-clause-made
 returns-clause-made g c = record { added = _; round = round_is g.met.K.Kind.lawful c.requires.state c.in-Some.r c.in-Some.ensures; more = c.settle.ensures.more; count = c.settle.ensures.count }
