@@ -1,7 +1,7 @@
 -- What the answers of a settled board mean.
-use Rattle.std.proofs.Common.{◌≡◌, ℕ, ◌+◌, ◌*◌, ◌/◌, ◌%◌, ◌<◌, Bool, true, false, cond, ◌&&◌, ◌||◌, leb, ◌⊎◌, List, ◌++◌, map, length, drop, Some, None, Ok, Err, Option, Result, sym, refl, ap, subst, subst₂, ◌∙◌, inl, inr, ⊎_elim, mod-lt, mul_comm, div-lt_iff_lt-mul, arith}
+use Rattle.std.proofs.Common.{◌≡◌, ℕ, ◌+◌, ◌*◌, ◌/◌, ◌%◌, ◌<◌, Bool, true, false, cond, ◌||◌, leb, ◌⊎◌, List, ◌++◌, map, length, drop, Some, None, Ok, Err, Option, Result, sym, refl, ap, subst, subst₂, ◌∙◌, inl, inr, ⊎_elim, mod-lt, mul_comm, div-lt_iff_lt-mul, arith}
 use native.Mathlib.Nat.{div-add-mod}
-use Rattle.std.proofs.lemmas.Bool.{or_cases, or_parts, and_parts, leb-true, leb-false}
+use Rattle.std.proofs.lemmas.Bool.{and_cases, or_cases, or_parts, and_parts, leb-true, leb-false}
 use Rattle.costs.specs.declared.kind.Kind.{Ghosts}
 use Rattle.costs.specs.Meaning.{Meaning, Lawful, NoDearer}
 use Rattle.board.specs.declared.moves.Move.{Move}
@@ -22,11 +22,6 @@ use Rattle.board.proofs.Membership.{none_some}
 use Rattle.board.proofs.Finding.{joins_parts, between_some, between_is, found_recorded, found_none}
 use Rattle.board.proofs.Growing.{place_below}
 use Rattle.board.proofs.Promised.{settling_promises}
-
--- one of two tests fails
-not_both : (a b : Bool) → (a && b) ≡ false → (a ≡ false) ⊎ (b ≡ false)
-not_both true b e = inr e
-not_both false b e = inl refl
 
 module _ {m : Meaning} {c : Content} (laws : Lawful m) (sound : Sound m c) {log : List Record} (d : Settled m c log) where
   promised : Cheapest m c log
@@ -54,7 +49,7 @@ module _ {m : Meaning} {c : Content} (laws : Lawful m) (sound : Sound m c) {log 
 
   -- path
   longer : (f : ReadingFound) (buffer : List ℕ) → fits f buffer ≡ false → (length buffer < length f.moves) ⊎ (65535 < length f.moves)
-  longer f buffer e = ⊎_elim (λ h. inl (leb-false _ _ h)) (λ h. inr (leb-false _ _ h)) (not_both _ _ e)
+  longer f buffer e = ⊎_elim (λ h. inl (leb-false _ _ h)) (λ h. inr (leb-false _ _ h)) (and_cases _ _ e)
 
   path_fits : (f : ReadingFound) (buffer : List ℕ) → found m c log ≡ Some f → (t : Bool) → fits f buffer ≡ t → PathMeans m c log buffer (cond t (Ok (length f.moves)) (Err TooLong)) (cond t (map packed f.moves ++ drop (length f.moves) buffer) buffer)
   path_fits f buffer e true h =

@@ -20,9 +20,6 @@ module _ {m : Meaning} {c : Content} {log : List Record} where
   pub grown_same : {best : List (Option Entry)} {P : Record → Type 0} → BestOk m c log best → ((y : Record) → P y → ⊥) → Grown m c log best best P
   grown_same ok none = record { ok = ok; better = λ y k h. h; covers = λ y k p. absurd (none y p) }
 
-  pub grown_none : {best : List (Option Entry)} (Q : ℕ → Record → Type 0) → BestOk m c log best → Grown m c log best best (Upto Q 0)
-  grown_none Q ok = grown_same ok (λ y p. let h = p.1 in omega arith)
-
   pub grown_then : {a b d : List (Option Entry)} {P Q R : Record → Type 0} → Grown m c log a b P → Grown m c log b d Q → ((y : Record) → R y → P y ⊎ Q y) → Grown m c log a d R
   grown_then g h split = record {
     ok = h.ok;

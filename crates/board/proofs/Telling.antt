@@ -9,7 +9,6 @@ use Rattle.board.specs.Entries.{ReadingIn}
 use Rattle.board.specs.Spelled.{moves_at, move_of}
 use Rattle.board.proofs.Holding.{settled_of}
 use Rattle.board.proofs.Packs.{settled_small}
-use Rattle.board.specs.declared.moves.Move.{Move}
 use Rattle.board.specs.declared.log.Log.{Log}
 use Rattle.board.specs.declared.reading.Reading.{Reading}
 use Rattle.board.specs.Packing.{packed, Small}
@@ -21,9 +20,6 @@ use Rattle.board.specs.Questions.{fits, path_told, path_written, path_answer, pa
 
 -- what is told of a reading in a log
 module _ (l : Log) (r : Reading) (o : Option ReadingFound) (is : reading_of l (Some r) ≡ o) (k : ℕ) (measured : k ≡ min (length (nth_record l r.entry).moves) 65536) where
-  moves : List Move
-  moves = (nth_record l r.entry).moves
-
   the_found : ReadingFound
   the_found = record { row = r.row; cost = r.cost; moves = (nth_record l r.entry).moves ++ (bare r.row ∷ []) }
 
