@@ -23,7 +23,7 @@ use Rattle.board.proofs.Naming.{named_goes, goes_named}
 use Rattle.board.proofs.Balance.{body_stack, stack_body}
 
 err_ok : {A E : Type 0} (e : E) (x : A) → Err e ≡ Ok x → ⊥
-err_ok e x h = let z : ◌≡◌ {A = ℕ} 0 1 = cc in omega arith
+err_ok e x h = cc
 
 ok_in : {A E : Type 0} (x y : A) → ◌≡◌ {A = Result A E} (Ok x) (Ok y) → x ≡ y
 ok_in x y e = cc
@@ -39,10 +39,10 @@ same_tail : (x y : Effect) (xs ys : List Effect) → x ∷ xs ≡ y ∷ ys → x
 same_tail x y xs ys e = cc
 
 no_cons : (x : Effect) (xs : List Effect) → [] ≡ x ∷ xs → ⊥
-no_cons x xs e = let z : ◌≡◌ {A = ℕ} 0 1 = cc in omega arith
+no_cons x xs e = cc
 
 cons_no : (x : Effect) (xs : List Effect) → x ∷ xs ≡ [] → ⊥
-cons_no x xs e = let z : ◌≡◌ {A = ℕ} 0 1 = cc in omega arith
+cons_no x xs e = cc
 
 -- one move of a check, taken apart
 record Took (m : Meaning) (c : Content) (w : Progress) (x : ℕ) (w' : Progress) : Type 0 where
@@ -164,7 +164,7 @@ ends_empty (x ∷ st) st' b = absurd (err_ok _ st' b)
 
 no_packs : (xs : List ℕ) → map unpacked xs ≡ [] → xs ≡ []
 no_packs [] e = refl
-no_packs (x ∷ xs) e = absurd (let z : ◌≡◌ {A = ℕ} 0 1 = cc in omega arith)
+no_packs (x ∷ xs) e = absurd cc
 
 -- one effect of a word that closes what is open
 opened_one : (e : Effect) (es : List Effect) (st : List ℕ) → is_end e ≡ false → stack (e ∷ es) st ≡ Some [] → ShallowFrom st (e ∷ es) → (st' : List ℕ) × (bracketed e st ≡ Ok st')
@@ -271,7 +271,7 @@ module _ {m : Meaning} {c : Content} where
 
   accepted : (body : List Effect) {vs : List Move} {p q : Place} {ks : List ℕ} {es : List Effect} → Path m c vs p q ks es → es ≡ body ++ (Ends ∷ []) → Running body → (st : List ℕ) → stack body st ≡ Some [] → ShallowFrom st body → (xs : List ℕ) → map unpacked xs ≡ map Some vs → (i a : ℕ) → checked_from m c (record { place = p; unclosed = st; ended = false; cost = a }) i xs ≡ Ok (joined_onto m a ks)
   accepted [] stop eq run st s d xs u i a = absurd (no_cons _ _ eq)
-  accepted [] (go {v} {vs} {p = p} {r = r} {k = k} {ks = ks} g path) eq run st s d [] u i a = absurd (let z : ◌≡◌ {A = ℕ} 0 1 = cc in omega arith)
+  accepted [] (go {v} {vs} {p = p} {r = r} {k = k} {ks = ks} g path) eq run st s d [] u i a = absurd cc
   accepted [] (go {v} {vs} {p = p} {r = r} {k = k} {ks = ks} g path) eq run st s d (x ∷ xs) u i a =
       let z = nothing path (same_tail _ _ _ _ eq) in
       let g' : Transition m c v p r k Ends = subst (Transition m c v p r k) (same_head _ _ _ _ eq) g in
@@ -283,7 +283,7 @@ module _ {m : Meaning} {c : Content} where
       let w : Progress = record { place = r; unclosed = []; ended = true; cost = m.join a k } in
       ap (λ (o : Result Progress Refusal). or_fault i o (λ y. checked_from m c y (suc i) xs)) t ∙ ap (checked_from m c w (suc i)) xs-is ∙ ap (λ l. Ok (joined_onto m (m.join a k) l)) (sym z.1)
   accepted (e ∷ body) stop eq run st s d xs u i a = absurd (no_cons _ _ eq)
-  accepted (e ∷ body) (go {v} {vs} {p = p} {r = r} {k = k} {ks = ks} g path) eq run st s d [] u i a = absurd (let z : ◌≡◌ {A = ℕ} 0 1 = cc in omega arith)
+  accepted (e ∷ body) (go {v} {vs} {p = p} {r = r} {k = k} {ks = ks} g path) eq run st s d [] u i a = absurd cc
   accepted (e ∷ body) (go {v} {vs} {p = p} {r = r} {k = k} {ks = ks} g path) eq run st s d (x ∷ xs) u i a =
       let g' : Transition m c v p r k e = subst (Transition m c v p r k) (same_head _ _ _ _ eq) g in
       let u₀ : unpacked x ≡ Some v = cc in

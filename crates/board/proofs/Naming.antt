@@ -1,5 +1,5 @@
 -- What a move names starts at a place and leads on exactly where the move is a transition.
-use Rattle.std.proofs.Common.{◌≡◌, ℕ, Bool, true, false, cond, Some, None, Option, sym, refl, ap, ◌∙◌, subst, inl, inr, ⊎_elim, arith}
+use Rattle.std.proofs.Common.{◌≡◌, ℕ, Bool, true, false, cond, Some, None, Option, sym, refl, ap, ◌∙◌, subst, inl, inr, ⊎_elim}
 use Rattle.std.proofs.lemmas.Option.{none-some, same_Some}
 use Rattle.std.specs.List.{slice_get}
 use Rattle.std.proofs.lemmas.Bool.{eqb-true, eqb-false, ltb-true, lt-ltb, eq-eqb, ne_eqb, and_parts, and_from, cond-true, cond-false, not-true, not-false, not_from_true, not_from_false}
@@ -27,9 +27,9 @@ cond_other false x y e = (refl, e)
 -- a row that takes no line has no event
 no_line : (k : RowKind) (label : ℕ) → takes_line k label ≡ false → k ≡ Plain → label ≡ 0
 no_line Plain label h e = eqb-true _ _ (not-false _ h)
-no_line Open label h e = absurd (let z : ◌≡◌ {A = ℕ} 0 1 = cc in omega arith)
-no_line Close label h e = absurd (let z : ◌≡◌ {A = ℕ} 0 1 = cc in omega arith)
-no_line End label h e = absurd (let z : ◌≡◌ {A = ℕ} 0 1 = cc in omega arith)
+no_line Open label h e = absurd cc
+no_line Close label h e = absurd cc
+no_line End label h e = absurd cc
 
 from_no_line : (k : RowKind) (label : ℕ) → (k ≡ Plain → label ≡ 0) → takes_line k label ≡ false
 from_no_line Plain label f = not_from_true _ (eq-eqb _ _ (f refl))
@@ -40,14 +40,14 @@ from_no_line End label f = refl
 -- a row that takes a line is plain and has an event
 a_line : (k : RowKind) (label : ℕ) → takes_line k label ≡ true → (k ≡ Plain) × (label ≡ 0 → ⊥)
 a_line Plain label h = (refl, eqb-false _ _ (not-true _ h))
-a_line Open label h = absurd (let z : ◌≡◌ {A = ℕ} 0 1 = cc in omega arith)
-a_line Close label h = absurd (let z : ◌≡◌ {A = ℕ} 0 1 = cc in omega arith)
-a_line End label h = absurd (let z : ◌≡◌ {A = ℕ} 0 1 = cc in omega arith)
+a_line Open label h = absurd cc
+a_line Close label h = absurd cc
+a_line End label h = absurd cc
 
 timely_true : (k : RowKind) (n t : ℕ) → timely k n t ≡ true → k ≡ End → EndMoment n t
-timely_true Plain n t h e = absurd (let z : ◌≡◌ {A = ℕ} 0 1 = cc in omega arith)
-timely_true Open n t h e = absurd (let z : ◌≡◌ {A = ℕ} 0 1 = cc in omega arith)
-timely_true Close n t h e = absurd (let z : ◌≡◌ {A = ℕ} 0 1 = cc in omega arith)
+timely_true Plain n t h e = absurd cc
+timely_true Open n t h e = absurd cc
+timely_true Close n t h e = absurd cc
 timely_true End n t h e = h
 
 timely_from : (k : RowKind) (n t : ℕ) → (k ≡ End → EndMoment n t) → timely k n t ≡ true
