@@ -1,5 +1,6 @@
 -- The check accepts exactly the complete readings with at most 4,096 brackets open at any time.
 use Rattle.std.proofs.Common.{◌≡◌, ℕ, suc, ◌<◌, ◌≤◌, Bool, true, false, cond, eqb, ltb, ◌↔◌, List, [], ◌∷◌, ◌++◌, map, length, Some, None, Ok, Err, Option, Result, sym, refl, ap, ◌∙◌, subst, arith}
+use Rattle.std.proofs.lemmas.Option.{none-some, same_Some}
 use Rattle.std.proofs.lemmas.Bool.{both_ways, or_parts, or_from, not-false, not_from_true, ltb-true, lt-ltb, cond-true, cond-false}
 use Rattle.costs.specs.Meaning.{Meaning}
 use Rattle.costs.specs.Lists.{joined_onto}
@@ -8,6 +9,7 @@ use Rattle.board.specs.declared.moves.Effect.{Effect}
 use Rattle.board.specs.declared.moves.Effect.TheVariants.{Quiet, Opens, Closes, Ends}
 use Rattle.board.specs.declared.moves.Arrival.{Arrival}
 use Rattle.board.specs.declared.named.Named.{Named}
+use Rattle.board.specs.declared.check.Fault.{Fault}
 use Rattle.board.specs.declared.refusal.Refusal.{Refusal}
 use Rattle.board.specs.declared.refusal.Refusal.TheVariants.{TooDeep, BadBracket}
 use Rattle.board.specs.Content.{Content}
@@ -15,14 +17,13 @@ use Rattle.board.specs.Moves.{Place, Transition}
 use Rattle.board.specs.Paths.{Path, stop, go, stack, Running}
 use Rattle.board.specs.Packing.{unpacked}
 use Rattle.board.specs.Arrivals.{named, leads}
-use Rattle.board.specs.Checks.{bracketed, Progress, start, arrived, take_named, named_by_number, take_move, or_fault, checked_from, check_answer, ShallowFrom, PacksReading}
+use Rattle.board.specs.Checks.{bracketed, Progress, start, arrived, take_named, named_by_number, take_move, or_fault, checked_from, check_answer, ShallowFrom, PacksReading, AcceptsReadings}
 use Rattle.board.specs.Moves.{is_end}
-use Rattle.board.proofs.Elements.{no_some}
-use Rattle.board.proofs.Naming.{some_in, named_goes, goes_named}
+use Rattle.board.proofs.Naming.{named_goes, goes_named}
 use Rattle.board.proofs.Balance.{body_stack, stack_body}
 
 err_ok : {A E : Type 0} (e : E) (x : A) → Err e ≡ Ok x → ⊥
-err_ok e x h = let z : ◌≡◌ {A = ℕ} 0 1 = cc in omega arith
+err_ok e x h = cc
 
 ok_in : {A E : Type 0} (x y : A) → ◌≡◌ {A = Result A E} (Ok x) (Ok y) → x ≡ y
 ok_in x y e = cc
@@ -38,10 +39,10 @@ same_tail : (x y : Effect) (xs ys : List Effect) → x ∷ xs ≡ y ∷ ys → x
 same_tail x y xs ys e = cc
 
 no_cons : (x : Effect) (xs : List Effect) → [] ≡ x ∷ xs → ⊥
-no_cons x xs e = let z : ◌≡◌ {A = ℕ} 0 1 = cc in omega arith
+no_cons x xs e = cc
 
 cons_no : (x : Effect) (xs : List Effect) → x ∷ xs ≡ [] → ⊥
-cons_no x xs e = let z : ◌≡◌ {A = ℕ} 0 1 = cc in omega arith
+cons_no x xs e = cc
 
 -- one move of a check, taken apart
 record Took (m : Meaning) (c : Content) (w : Progress) (x : ℕ) (w' : Progress) : Type 0 where
@@ -131,7 +132,7 @@ still_few Ends [] st' h b = let l : 0 ≡ length st' = ap length (ok_in [] st' b
 still_few Ends (x ∷ st) st' h b = absurd (err_ok _ st' b)
 
 shallow_more : (e : Effect) (es : List Effect) (st st' : List ℕ) → is_end e ≡ false → bracketed e st ≡ Ok st' → length st ≤ 4096 → ShallowFrom st' es → ShallowFrom st (e ∷ es)
-shallow_more e es st st' n b few s [] rest o f k = let l : length st ≡ length o = ap length (some_in _ _ k) in omega arith
+shallow_more e es st st' n b few s [] rest o f k = let l : length st ≡ length o = ap length (same_Some _ _ k) in omega arith
 shallow_more e es st st' n b few s (x ∷ front) rest o f k =
     let y : x ≡ e = sym (same_head _ _ _ _ f) in
     s front rest o (same_tail _ _ _ _ f) (sym (stack_one e front st st' n b) ∙ ap (λ z. stack (z ∷ front) st) (sym y) ∙ k)
@@ -163,18 +164,18 @@ ends_empty (x ∷ st) st' b = absurd (err_ok _ st' b)
 
 no_packs : (xs : List ℕ) → map unpacked xs ≡ [] → xs ≡ []
 no_packs [] e = refl
-no_packs (x ∷ xs) e = absurd (let z : ◌≡◌ {A = ℕ} 0 1 = cc in omega arith)
+no_packs (x ∷ xs) e = absurd cc
 
 -- one effect of a word that closes what is open
 opened_one : (e : Effect) (es : List Effect) (st : List ℕ) → is_end e ≡ false → stack (e ∷ es) st ≡ Some [] → ShallowFrom st (e ∷ es) → (st' : List ℕ) × (bracketed e st ≡ Ok st')
 opened_one Quiet es st n s d = (st, refl)
 opened_one (Opens a) es st n s d = let z = d (Opens a ∷ []) es (a ∷ st) refl refl in let l : length st < 4096 = omega arith in (a ∷ st, cond-true _ _ _ (lt-ltb _ _ l))
-opened_one (Closes a) es [] n s d = absurd (no_some [] s)
+opened_one (Closes a) es [] n s d = absurd (none-some [] s)
 opened_one (Closes a) es (x ∷ st) n s d = same (eqb x a) s
   where
     same : (t : Bool) → cond t (stack es st) None ≡ Some [] → (st' : List ℕ) × (cond t (Ok st) (Err BadBracket) ≡ Ok st')
     same true f = (st, refl)
-    same false f = absurd (no_some [] f)
+    same false f = absurd (none-some [] f)
 opened_one Ends es st n s d = absurd (both_ways _ n refl)
 
 stack_empty : (st : List ℕ) → stack [] st ≡ Some [] → st ≡ []
@@ -218,7 +219,7 @@ module _ {m : Meaning} {c : Content} where
       }
     where
       none : length w.unclosed ≤ 4096 → (front rest : List Effect) (o : List ℕ) → [] ≡ front ++ rest → stack front w.unclosed ≡ Some o → length o ≤ 4096
-      none few [] rest o f l = let n : length w.unclosed ≡ length o = ap length (some_in _ _ l) in omega arith
+      none few [] rest o f l = let n : length w.unclosed ≡ length o = ap length (same_Some _ _ l) in omega arith
       none few (y ∷ front) rest o f l = absurd (no_cons _ _ f)
 
   rest_more : (w w' : Progress) (x : ℕ) (xs : List ℕ) (k : ℕ) → (s : Took m c w x w') → w'.ended ≡ false → length w.unclosed ≤ 4096 → Rest m c w'.place w'.unclosed w'.cost xs k → Rest m c w.place w.unclosed w.cost (x ∷ xs) k
@@ -270,7 +271,7 @@ module _ {m : Meaning} {c : Content} where
 
   accepted : (body : List Effect) {vs : List Move} {p q : Place} {ks : List ℕ} {es : List Effect} → Path m c vs p q ks es → es ≡ body ++ (Ends ∷ []) → Running body → (st : List ℕ) → stack body st ≡ Some [] → ShallowFrom st body → (xs : List ℕ) → map unpacked xs ≡ map Some vs → (i a : ℕ) → checked_from m c (record { place = p; unclosed = st; ended = false; cost = a }) i xs ≡ Ok (joined_onto m a ks)
   accepted [] stop eq run st s d xs u i a = absurd (no_cons _ _ eq)
-  accepted [] (go {v} {vs} {p = p} {r = r} {k = k} {ks = ks} g path) eq run st s d [] u i a = absurd (let z : ◌≡◌ {A = ℕ} 0 1 = cc in omega arith)
+  accepted [] (go {v} {vs} {p = p} {r = r} {k = k} {ks = ks} g path) eq run st s d [] u i a = absurd cc
   accepted [] (go {v} {vs} {p = p} {r = r} {k = k} {ks = ks} g path) eq run st s d (x ∷ xs) u i a =
       let z = nothing path (same_tail _ _ _ _ eq) in
       let g' : Transition m c v p r k Ends = subst (Transition m c v p r k) (same_head _ _ _ _ eq) g in
@@ -282,7 +283,7 @@ module _ {m : Meaning} {c : Content} where
       let w : Progress = record { place = r; unclosed = []; ended = true; cost = m.join a k } in
       ap (λ (o : Result Progress Refusal). or_fault i o (λ y. checked_from m c y (suc i) xs)) t ∙ ap (checked_from m c w (suc i)) xs-is ∙ ap (λ l. Ok (joined_onto m (m.join a k) l)) (sym z.1)
   accepted (e ∷ body) stop eq run st s d xs u i a = absurd (no_cons _ _ eq)
-  accepted (e ∷ body) (go {v} {vs} {p = p} {r = r} {k = k} {ks = ks} g path) eq run st s d [] u i a = absurd (let z : ◌≡◌ {A = ℕ} 0 1 = cc in omega arith)
+  accepted (e ∷ body) (go {v} {vs} {p = p} {r = r} {k = k} {ks = ks} g path) eq run st s d [] u i a = absurd cc
   accepted (e ∷ body) (go {v} {vs} {p = p} {r = r} {k = k} {ks = ks} g path) eq run st s d (x ∷ xs) u i a =
       let g' : Transition m c v p r k e = subst (Transition m c v p r k) (same_head _ _ _ _ eq) g in
       let u₀ : unpacked x ≡ Some v = cc in
@@ -311,3 +312,7 @@ module _ {m : Meaning} {c : Content} where
       back h =
           accepted h.complete.body h.complete.path refl h.complete.running [] (body_stack h.complete.body h.complete.balanced) h.shallow xs h.packs 0 m.free
           ∙ ap Ok (sym h.complete.price)
+
+-- what an answer of the check says of the moves
+pub answer_accepts : {m : Meaning} {c : Content} (xs : List ℕ) (r : Result ℕ Fault) → r ≡ check_answer m c xs → AcceptsReadings m c xs r
+answer_accepts {m} {c} xs r e = subst (AcceptsReadings m c xs) (sym e) (accepts xs)

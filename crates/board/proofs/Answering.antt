@@ -1,9 +1,14 @@
 -- What the answers of a settled board mean.
-use Rattle.std.proofs.Common.{◌≡◌, ℕ, ◌+◌, ◌*◌, ◌/◌, ◌%◌, ◌<◌, Bool, true, false, cond, ◌&&◌, ◌||◌, leb, ◌⊎◌, List, ◌++◌, map, length, drop, Some, None, Ok, Err, Option, refl, ap, ◌∙◌, inl, inr, ⊎_elim, mod-lt, mul_comm, div-lt_iff_lt-mul, arith}
+use Rattle.std.proofs.Common.{◌≡◌, ℕ, ◌+◌, ◌*◌, ◌/◌, ◌%◌, ◌<◌, Bool, true, false, cond, ◌||◌, leb, ◌⊎◌, List, ◌++◌, map, length, drop, Some, None, Ok, Err, Option, Result, sym, refl, ap, subst, subst₂, ◌∙◌, inl, inr, ⊎_elim, mod-lt, mul_comm, div-lt_iff_lt-mul, arith}
 use native.Mathlib.Nat.{div-add-mod}
-use Rattle.std.proofs.lemmas.Bool.{or_cases, or_parts, and_parts, leb-true, leb-false}
+use Rattle.std.proofs.lemmas.Bool.{and_cases, or_cases, or_parts, and_parts, leb-true, leb-false}
+use Rattle.costs.specs.declared.kind.Kind.{Ghosts}
 use Rattle.costs.specs.Meaning.{Meaning, Lawful, NoDearer}
 use Rattle.board.specs.declared.moves.Move.{Move}
+use Rattle.board.specs.declared.refusal.Refusal.{Refusal}
+use Rattle.board.specs.declared.settled.Settled.{Settled as SettledBoard}
+use Rattle.board.specs.Boards.{settled_content, settled_records}
+use Rattle.board.proofs.Holding.{settled_of}
 use Rattle.board.specs.declared.refusal.Refusal.TheVariants.{TooLong, PlaceOut}
 use Rattle.board.specs.Content.{Content, Sound}
 use Rattle.board.specs.Moves.{Place, On, place_number}
@@ -17,11 +22,6 @@ use Rattle.board.proofs.Membership.{none_some}
 use Rattle.board.proofs.Finding.{joins_parts, between_some, between_is, found_recorded, found_none}
 use Rattle.board.proofs.Growing.{place_below}
 use Rattle.board.proofs.Promised.{settling_promises}
-
--- one of two tests fails
-not_both : (a b : Bool) → (a && b) ≡ false → (a ≡ false) ⊎ (b ≡ false)
-not_both true b e = inr e
-not_both false b e = inl refl
 
 module _ {m : Meaning} {c : Content} (laws : Lawful m) (sound : Sound m c) {log : List Record} (d : Settled m c log) where
   promised : Cheapest m c log
@@ -44,12 +44,12 @@ module _ {m : Meaning} {c : Content} (laws : Lawful m) (sound : Sound m c) {log 
         cheapest = λ other x h. promised.cheapest _ x _ other r h;
       }
 
-  pub cost_means : CostMeans m c log (cost_answer m c log)
+  cost_means : CostMeans m c log (cost_answer m c log)
   cost_means = cost_by _ refl
 
   -- path
   longer : (f : ReadingFound) (buffer : List ℕ) → fits f buffer ≡ false → (length buffer < length f.moves) ⊎ (65535 < length f.moves)
-  longer f buffer e = ⊎_elim (λ h. inl (leb-false _ _ h)) (λ h. inr (leb-false _ _ h)) (not_both _ _ e)
+  longer f buffer e = ⊎_elim (λ h. inl (leb-false _ _ h)) (λ h. inr (leb-false _ _ h)) (and_cases _ _ e)
 
   path_fits : (f : ReadingFound) (buffer : List ℕ) → found m c log ≡ Some f → (t : Bool) → fits f buffer ≡ t → PathMeans m c log buffer (cond t (Ok (length f.moves)) (Err TooLong)) (cond t (map packed f.moves ++ drop (length f.moves) buffer) buffer)
   path_fits f buffer e true h =
@@ -73,7 +73,7 @@ module _ {m : Meaning} {c : Content} (laws : Lawful m) (sound : Sound m c) {log 
   path_by None buffer e = (inl (refl, promised.none.0 (found_none laws sound d.reached e)), refl)
   path_by (Some f) buffer e = path_fits f buffer e (fits f buffer) refl
 
-  pub path_means : (buffer : List ℕ) → PathMeans m c log buffer (path_answer m c log buffer) (path_after m c log buffer)
+  path_means : (buffer : List ℕ) → PathMeans m c log buffer (path_answer m c log buffer) (path_after m c log buffer)
   path_means buffer = path_by _ buffer refl
 
   -- between
@@ -123,5 +123,16 @@ module _ {m : Meaning} {c : Content} (laws : Lawful m) (sound : Sound m c) {log 
   between_by s q true e = inl (refl, no_pair s q e)
   between_by s q false e = record_by s q _ (the_pair s q e) refl
 
-  pub between_means : (s q : ℕ) → BetweenMeans m c s q (between_answer c log s q)
+  between_means : (s q : ℕ) → BetweenMeans m c s q (between_answer c log s q)
   between_means s q = between_by s q _ refl
+
+-- what a settled board answers, and its meaning
+module _ {K : Type 0} {k : Ghosts K} (laws : Lawful k.meaning) (s : SettledBoard K k) where
+  pub cost_tells : (r : Result (ℕ × ℕ) Refusal) → r ≡ cost_answer k.meaning (settled_content s) (settled_records s) → CostMeans k.meaning (settled_content s) (settled_records s) r
+  cost_tells r e = subst (CostMeans k.meaning (settled_content s) (settled_records s)) (sym e) (cost_means laws s.tables.sound (settled_of laws s))
+
+  pub path_tells : (b b' : List ℕ) (r : Result ℕ Refusal) → r ≡ path_answer k.meaning (settled_content s) (settled_records s) b → b' ≡ path_after k.meaning (settled_content s) (settled_records s) b → PathMeans k.meaning (settled_content s) (settled_records s) b r b'
+  path_tells b b' r e f = subst₂ (PathMeans k.meaning (settled_content s) (settled_records s) b) (sym e) (sym f) (path_means laws s.tables.sound (settled_of laws s) b)
+
+  pub between_tells : (from to : ℕ) (r : Result ℕ Refusal) → r ≡ between_answer (settled_content s) (settled_records s) from to → BetweenMeans k.meaning (settled_content s) from to r
+  between_tells from to r e = subst (BetweenMeans k.meaning (settled_content s) from to) (sym e) (between_means laws s.tables.sound (settled_of laws s) from to)

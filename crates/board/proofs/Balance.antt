@@ -1,7 +1,7 @@
 -- The Dyck language by a stack.
 use Rattle.board.specs.declared.moves.Effect.{Effect}
 use Rattle.board.specs.declared.moves.Effect.TheVariants.{Quiet, Opens, Closes, Ends}
-use Rattle.std.proofs.Common.{◌≡◌, ℕ, Bool, true, false, cond, eqb, List, [], ◌∷◌, ◌++◌, Some, None, sym, refl, ap, ◌∙◌, subst, append_assoc, append-nil, arith}
+use Rattle.std.proofs.Common.{◌≡◌, ℕ, Bool, true, false, cond, eqb, List, [], ◌∷◌, ◌++◌, Some, None, sym, refl, ap, ◌∙◌, subst, append_assoc, append-nil}
 use Rattle.std.proofs.lemmas.Bool.{eqb-true, eq-eqb}
 use Rattle.board.specs.Paths.{brackets, Balanced, Dyck, empty, both, pair, stack, GrammarIsStack}
 
@@ -32,18 +32,18 @@ closing_after (n ∷ st) d b h c = (d ++ c.0, c.1, ap (λ z. d ++ z) c.2 ∙ sym
 
 closing : (es : List Effect) (st : List ℕ) → stack es st ≡ Some [] → Closing st (brackets es)
 closing [] [] e = empty
-closing [] (x ∷ st) e = absurd (let z : ◌≡◌ {A = ℕ} 0 1 = cc in omega arith)
+closing [] (x ∷ st) e = absurd cc
 closing (Quiet ∷ es) st e = closing es st e
 closing (Opens n ∷ es) st e =
     let c = closing es (n ∷ st) e in
     let word : (Opens n ∷ (c.0 ++ (Closes n ∷ []))) ++ c.1 ≡ Opens n ∷ brackets es = ap (λ z. Opens n ∷ z) (append_assoc c.0 (Closes n ∷ []) c.1 ∙ sym c.2) in
     closing_eq st _ _ word (closing_after st (Opens n ∷ (c.0 ++ (Closes n ∷ []))) c.1 (pair n c.3) c.4)
-closing (Closes n ∷ es) [] e = absurd (let z : ◌≡◌ {A = ℕ} 0 1 = cc in omega arith)
+closing (Closes n ∷ es) [] e = absurd cc
 closing (Closes n ∷ es) (x ∷ st) e = same (eqb x n) refl e (closing es st)
   where
     same : (t : Bool) → eqb x n ≡ t → cond t (stack es st) None ≡ Some [] → (stack es st ≡ Some [] → Closing st (brackets es)) → Closing (x ∷ st) (Closes n ∷ brackets es)
     same true f g rest = ([], brackets es, ap (λ z. Closes z ∷ brackets es) (sym (eqb-true x n f)), empty, rest g)
-    same false f g rest = absurd (let z : ◌≡◌ {A = ℕ} 0 1 = cc in omega arith)
+    same false f g rest = absurd cc
 closing (Ends ∷ es) st e = closing es st e
 
 pub balanced_stack : GrammarIsStack

@@ -1,5 +1,6 @@
 -- The list `candidates` holds just the candidates.
 use Rattle.std.proofs.Common.{◌≡◌, ℕ, Bool, true, false, cond, eqb, List, [], ◌∷◌, length, Some, None, Option, sym, refl, subst, inl, inr, ⊎_elim}
+use Rattle.std.proofs.lemmas.Option.{slice_get_within}
 use Rattle.std.proofs.lemmas.Bool.{eqb-true, eq-eqb, and_parts, and_from}
 use Rattle.costs.specs.Meaning.{Meaning}
 use Rattle.board.specs.declared.moves.Move.{Move}
@@ -11,7 +12,6 @@ use Rattle.board.specs.Moves.{Place, mode, moment, Transition}
 use Rattle.board.specs.Settling.{In, Record, step_record, call_record, Candidate, step, call}
 use Rattle.board.specs.Arrivals.{arrival_on}
 use Rattle.board.specs.Computing.{each, below, moves_of, all_moves, same_place, step_effect, close_effect, close_by, inside_if, inside_by, open_effect, from_arrival, from_record, candidates}
-use Rattle.board.proofs.Elements.{nth_below}
 use Rattle.board.proofs.Membership.{in_split, in_each, each_in, in_below}
 use Rattle.board.proofs.Diagonal.{place_eq}
 use Rattle.board.proofs.Transitions.{arrival_transition, transition_arrival}
@@ -29,8 +29,8 @@ module _ (m : Meaning) (c : Content) where
   transition_listed : (v : Move) (p q : Place) (k : ℕ) (e : Effect) → Transition m c v p q k e → In v (all_moves c)
   transition_listed v p q k e g =
       let ls = below (length c.lines) in
-      let row_in = in_below _ _ (nth_below c.rows v.row g.by g.found) in
-      let here : In v (moves_of ls v.row) = ⊎_elim (λ s. inl (move_eq v _ refl s.alone)) (λ s. inr (in_each (λ j. record { row = v.row; line = Some j } ∷ []) ls s.number v (in_below _ _ (nth_below c.lines s.number s.taken s.found)) (inl (move_eq v _ refl s.along)))) g.time in
+      let row_in = in_below _ _ (slice_get_within c.rows v.row g.by g.found) in
+      let here : In v (moves_of ls v.row) = ⊎_elim (λ s. inl (move_eq v _ refl s.alone)) (λ s. inr (in_each (λ j. record { row = v.row; line = Some j } ∷ []) ls s.number v (in_below _ _ (slice_get_within c.lines s.number s.taken s.found)) (inl (move_eq v _ refl s.along)))) g.time in
       in_each (moves_of ls) _ v.row v row_in here
 
   -- each candidate is listed

@@ -87,10 +87,10 @@ pub same_tail : (x y : Effect) (xs ys : List Effect) → x ∷ xs ≡ y ∷ ys �
 same_tail x y xs ys e = cc
 
 pub no_cons : (x : Effect) (xs : List Effect) → [] ≡ x ∷ xs → ⊥
-no_cons x xs e = let z : ◌≡◌ {A = ℕ} 0 1 = cc in omega arith
+no_cons x xs e = cc
 
 pub cons_no : (x : Effect) (xs : List Effect) → x ∷ xs ≡ [] → ⊥
-cons_no x xs e = let z : ◌≡◌ {A = ℕ} 0 1 = cc in omega arith
+cons_no x xs e = cc
 
 word_eq : {m : Meaning} {c : Content} {s q : Place} {a b : ℕ} {w : List Effect} → a ≡ b → WordRead m c s q b w → WordRead m c s q a w
 word_eq {m} {c} {s} {q} {w = w} e h = subst (λ n. WordRead m c s q n w) (sym e) h

@@ -1,5 +1,6 @@
 -- A record has no more brackets open at once than there were rounds, and so the check accepts the recorded reading.
 use Rattle.std.proofs.Common.{◌≡◌, ℕ, suc, ◌+◌, ◌≤◌, Bool, true, false, cond, eqb, ◌⊎◌, List, [], ◌∷◌, ◌++◌, map, length, Some, None, sym, refl, ap, ◌∙◌, subst, inl, inr, ⊎_elim, append_assoc, mul-le-mul, arith}
+use Rattle.std.proofs.lemmas.Option.{none-some, same_Some}
 use Rattle.costs.specs.Meaning.{Meaning, Lawful}
 use Rattle.board.specs.declared.moves.Move.{Move}
 use Rattle.board.specs.declared.moves.Effect.{Effect}
@@ -12,7 +13,6 @@ use Rattle.board.specs.Checks.{ShallowFrom}
 use Rattle.board.specs.Settling.{In, Record, start_record, diagonal, Candidate, step, call, Rounds, begin, round, Settled, ReadingBy}
 use Rattle.board.specs.Computing.{pair_count}
 use Rattle.board.specs.Promises.{RecordedIsChecked}
-use Rattle.board.proofs.Elements.{no_some}
 use Rattle.board.proofs.Membership.{some_eq}
 use Rattle.board.proofs.Balance.{over_dyck, stack_brackets, brackets-++}
 use Rattle.board.proofs.Diagonal.{started}
@@ -43,36 +43,33 @@ front_of (x ∷ a) b (y ∷ front) rest e =
 over_balanced : (a es : List Effect) (st : List ℕ) → Balanced a → stack (a ++ es) st ≡ stack es st
 over_balanced a es st d = stack_brackets (a ++ es) st ∙ ap (λ z. stack z st) (brackets-++ a es) ∙ over_dyck d (brackets es) st ∙ sym (stack_brackets es st)
 
-same_length : (st o : List ℕ) → Some st ≡ Some o → length st ≡ length o
-same_length st o e = let z : st ≡ o = cc in ap length z
-
 -- the depth of effects, from their parts
 module _ (n : ℕ) where
   within_none : DepthWithin n []
-  within_none [] rest st o e s = let l = same_length st o s in omega arith
+  within_none [] rest st o e s = let l = ap length (same_Some st o s) in omega arith
   within_none (x ∷ front) rest st o e s = absurd (no_cons _ _ e)
 
   within_still : (x : Effect) (es : List Effect) → ((fs : List Effect) (st : List ℕ) → stack (x ∷ fs) st ≡ stack fs st) → DepthWithin n es → DepthWithin n (x ∷ es)
-  within_still x es still h [] rest st o e s = let l = same_length st o s in omega arith
+  within_still x es still h [] rest st o e s = let l = ap length (same_Some st o s) in omega arith
   within_still x es still h (y ∷ front) rest st o e s =
       h front rest st o (same_tail _ _ _ _ e) (sym (still front st) ∙ ap (λ z. stack (z ∷ front) st) (same_head _ _ _ _ e) ∙ s)
 
   within_open : (b : ℕ) (es : List Effect) → DepthWithin n es → DepthWithin (suc n) (Opens b ∷ es)
-  within_open b es h [] rest st o e s = let l = same_length st o s in omega arith
+  within_open b es h [] rest st o e s = let l = ap length (same_Some st o s) in omega arith
   within_open b es h (y ∷ front) rest st o e s =
       let k = h front rest (b ∷ st) o (same_tail _ _ _ _ e) (ap (λ z. stack (z ∷ front) st) (same_head _ _ _ _ e) ∙ s) in
       omega arith
 
   within_close : (b : ℕ) (es : List Effect) → DepthWithin n es → DepthWithin n (Closes b ∷ es)
-  within_close b es h [] rest st o e s = let l = same_length st o s in omega arith
+  within_close b es h [] rest st o e s = let l = ap length (same_Some st o s) in omega arith
   within_close b es h (y ∷ front) rest st o e s = closed st (ap (λ z. stack (z ∷ front) st) (same_head _ _ _ _ e) ∙ s)
     where
       matched : (t : Bool) (st : List ℕ) → cond t (stack front st) None ≡ Some o → length o ≤ n + length st
       matched true st s = h front rest st o (same_tail _ _ _ _ e) s
-      matched false st s = absurd (no_some o s)
+      matched false st s = absurd (none-some o s)
 
       closed : (st : List ℕ) → stack (Closes b ∷ front) st ≡ Some o → length o ≤ n + length st
-      closed [] s = absurd (no_some o s)
+      closed [] s = absurd (none-some o s)
       closed (x ∷ st) s = let k = matched (eqb x b) st s in omega arith
 
   within_both : (a b : List Effect) → Balanced a → DepthWithin n a → DepthWithin n b → DepthWithin n (a ++ b)

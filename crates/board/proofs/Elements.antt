@@ -1,33 +1,27 @@
 -- What stands at a number of a list: after one element is added or changed, and in a front.
-use Rattle.std.proofs.Common.{◌≡◌, ℕ, zero, suc, ◌*◌, ◌<◌, ◌≤◌, ◌⊎◌, List, [], ◌∷◌, ◌++◌, length, get_or, set, Some, None, refl, ap, ◌∙◌, subst, ap₂, inl, inr, mul_comm, mul-zero, zero-mul, le-mul_of_pos_right, arith}
+use Rattle.std.proofs.Common.{◌≡◌, ℕ, zero, suc, ◌*◌, ◌<◌, ◌≤◌, ◌⊎◌, List, [], ◌∷◌, ◌++◌, length, get_or, set, Some, refl, ap, ◌∙◌, subst, ap₂, inl, inr, mul_comm, mul-zero, zero-mul, le-mul_of_pos_right, arith}
+use Rattle.std.proofs.lemmas.Option.{none-some, slice_get_within}
 use Rattle.std.specs.List.{slice_get, refill}
 use Rattle.std.proofs.lemmas.List.{length-set}
 use Rattle.std.proofs.Math.Seq.{take-append_seam}
 use Rattle.board.specs.Calls.{changed}
 
-pub no_some : {A : Type 0} (x : A) → None ≡ Some x → ⊥
-no_some x e = let z : ◌≡◌ {A = ℕ} 0 1 = cc in omega arith
-
-pub some_no : {A : Type 0} (x : A) → Some x ≡ None → ⊥
-some_no x e = let z : ◌≡◌ {A = ℕ} 0 1 = cc in omega arith
-
 pub nth_push : {A : Type 0} (xs : List A) (x : A) (i : ℕ) (y : A) → slice_get (xs ++ (x ∷ [])) i ≡ Some y → (slice_get xs i ≡ Some y) ⊎ (x ≡ y)
 nth_push [] x zero y e = inr (cc)
-nth_push [] x (suc i) y e = absurd (no_some y e)
+nth_push [] x (suc i) y e = absurd (none-some y e)
 nth_push (z ∷ xs) x zero y e = inl e
 nth_push (z ∷ xs) x (suc i) y e = nth_push xs x i y e
 
 -- what the changed list holds came from the list
 pub nth_changed : {A : Type 0} (f : A → A) (xs : List A) (j i : ℕ) (y : A) → slice_get (changed f xs j) i ≡ Some y → (slice_get xs i ≡ Some y) ⊎ ((x : A) × (slice_get xs i ≡ Some x) × (y ≡ f x))
-nth_changed f [] j i y e = absurd (no_some y e)
+nth_changed f [] j i y e = absurd (none-some y e)
 nth_changed f (x ∷ xs) zero zero y e = inr (x, refl, cc)
 nth_changed f (x ∷ xs) zero (suc i) y e = inl e
 nth_changed f (x ∷ xs) (suc j) zero y e = inl e
 nth_changed f (x ∷ xs) (suc j) (suc i) y e = nth_changed f xs j i y e
 
 pub nth_empty : {A : Type 0} (xs : List A) (i : ℕ) (x : A) → length xs ≡ 0 → slice_get xs i ≡ Some x → ⊥
-nth_empty [] i x n e = no_some x e
-nth_empty (y ∷ xs) i x n e = omega arith
+nth_empty xs i x n e = omega (arith, slice_get_within xs i x e)
 
 pub length_changed : {A : Type 0} (f : A → A) (xs : List A) (i : ℕ) → length (changed f xs i) ≡ length xs
 length_changed f [] i = refl
@@ -43,11 +37,6 @@ factors (suc a) (suc b) h k =
     let right = le-mul_of_pos_right {m = suc a} (suc b) (omega arith) in
     let turned = mul_comm (suc a) (suc b) in
     (omega arith, omega arith, omega arith, omega arith)
-
-pub nth_below : {A : Type 0} (xs : List A) (i : ℕ) (x : A) → slice_get xs i ≡ Some x → i < length xs
-nth_below [] i x e = absurd (no_some x e)
-nth_below (y ∷ xs) zero x e = omega arith
-nth_below (y ∷ xs) (suc i) x e = let h = nth_below xs i x e in omega arith
 
 -- one element changed
 set_changed : {A : Type 0} (f : A → A) (xs : List A) (i : ℕ) (d : A) → i < length xs → set xs i (f (get_or xs i d)) ≡ changed f xs i

@@ -84,9 +84,9 @@ module _ (log : List Record) (x : Record) where
       bound (unsettled? (x ∷ log) q) (unsettled? log q) f' e' (open_less ps)
     where
       bound : (s t : Bool) → s ≡ false → t ≡ true → open_in (x ∷ log) ps ≤ open_in log ps → cond s (suc (open_in (x ∷ log) ps)) (open_in (x ∷ log) ps) < cond t (suc (open_in log ps)) (open_in log ps)
-      bound true t g h k = absurd (let z : ◌≡◌ {A = ℕ} 0 1 = cc in omega arith)
+      bound true t g h k = absurd cc
       bound false true g h k = omega arith
-      bound false false g h k = absurd (let z : ◌≡◌ {A = ℕ} 0 1 = cc in omega arith)
+      bound false false g h k = absurd cc
   open_fewer p (q ∷ ps) (inr i) e f = bound (not (same_place x.from q.from && same_place x.to q.to)) (unsettled? log q) (open_fewer p ps i e f)
     where
       bound : (s t : Bool) → open_in (x ∷ log) ps < open_in log ps → cond (s && t) (suc (open_in (x ∷ log) ps)) (open_in (x ∷ log) ps) < cond t (suc (open_in log ps)) (open_in log ps)

@@ -1,5 +1,6 @@
 -- The function `found` gives the recorded reading.
 use Rattle.std.proofs.Common.{◌≡◌, ℕ, zero, suc, ◌<◌, ◌≤◌, Bool, true, false, cond, ◌⊎◌, List, [], ◌∷◌, ◌++◌, length, Some, None, Option, sym, refl, ap, ◌∙◌, subst, inl, inr, ⊎_elim, arith}
+use Rattle.std.proofs.lemmas.Option.{none-some, slice_get_within}
 use Rattle.std.specs.List.{slice_get}
 use Rattle.std.proofs.lemmas.Bool.{both_ways, cases_eq, and_parts, and_from, eqb-true, eq-eqb}
 use Rattle.costs.specs.Meaning.{Meaning, Lawful, Cost, NoDearer}
@@ -15,7 +16,6 @@ use Rattle.board.specs.Arrivals.{arrival_on}
 use Rattle.board.specs.Computing.{joins?, record_between, ReadingFound, ending, reading_at, better, best_moments, mode_left, best_rows, found}
 use Rattle.board.specs.Promises.{Computed}
 use Rattle.board.proofs.Laws.{cheaper_no_dearer, no_dearer_eq, cheaper_up, cheaper_or}
-use Rattle.board.proofs.Elements.{no_some, nth_below}
 use Rattle.board.proofs.Membership.{none_some}
 use Rattle.board.proofs.Diagonal.{place_eq}
 use Rattle.board.proofs.Pairs.{distinct, record_on}
@@ -31,7 +31,7 @@ joins_parts c a s q e = let z = and_parts _ _ e in (eqb-true _ _ z.0, eqb-true _
 -- what is found between two places is a record of the log between them
 pub between_some : (c : Content) (log : List Record) (s q : ℕ) (a : Record) → record_between c log s q ≡ Some a → In a log × (joins? c a s q ≡ true)
 unfolding record_between
-between_some c [] s q a e = absurd (no_some a e)
+between_some c [] s q a e = absurd (none-some a e)
 between_some c (b ∷ log) s q a e = by (between_some c log s q a) (joins? c b s q) refl e
   where
     by : (record_between c log s q ≡ Some a → In a log × (joins? c a s q ≡ true)) → (t : Bool) → joins? c b s q ≡ t → cond t (Some b) (record_between c log s q) ≡ Some a → In a (b ∷ log) × (joins? c a s q ≡ true)
@@ -93,12 +93,12 @@ module _ {m : Meaning} {c : Content} (laws : Lawful m) (sound : Sound m c) {roun
   Reads x = ReadingBy m c log x.row x.cost x.moves
 
   ending_reads : (i : ℕ) (p : Place) (x : ReadingFound) (o : Option Arrival) (b : Option Record) → On c p → arrival_on m c (bare i) p ≡ o → record_between c log 0 (place_number c p) ≡ b → ending m i o b ≡ Some x → Reads x × (x.row ≡ i)
-  ending_reads i p x None b on e f g = absurd (no_some x g)
-  ending_reads i p x (Some h) None on e f g = absurd (no_some x g)
+  ending_reads i p x None b on e f g = absurd (none-some x g)
+  ending_reads i p x (Some h) None on e f g = absurd (none-some x g)
   ending_reads i p x (Some h) (Some a) on e f g = by (is_end h.effect) refl g
     where
       by : (t : Bool) → is_end h.effect ≡ t → cond t (Some (the_found i (m.join a.cost h.cost) (a.moves ++ (bare i ∷ [])))) None ≡ Some x → Reads x × (x.row ≡ i)
-      by false z k = absurd (no_some x k)
+      by false z k = absurd (none-some x k)
       by true z k =
           let w = between_on a origin p origin_on on (ap (λ n. record_between c log n (place_number c p)) origin_zero ∙ f) in
           let go : Transition m c (bare i) p h.to h.cost Ends = subst (Transition m c (bare i) p h.to h.cost) (is_ends _ z) (arrival_transition m c (bare i) p h e) in
@@ -207,7 +207,7 @@ module _ {m : Meaning} {c : Content} (laws : Lawful m) (sound : Sound m c) {roun
 
   -- a reading's place is of the board, in the mode that its row leaves
   reading_place : (i k : ℕ) (vs : List Move) (r : ReadingBy m c log i k vs) → On c r.held.to × (mode r.held.to ≡ mode_left (slice_get c.rows i)) × (i < length c.rows)
-  reading_place i k vs r = ((record_on laws sound reached r.held r.logged).1, r.over.leaves ∙ sym (ap mode_left r.over.found), nth_below c.rows i r.over.by r.over.found)
+  reading_place i k vs r = ((record_on laws sound reached r.held r.logged).1, r.over.leaves ∙ sym (ap mode_left r.over.found), slice_get_within c.rows i r.over.by r.over.found)
 
   -- the mode that a row leaves is of the board
   left_in : (n : ℕ) (o : Option Row) → slice_get c.rows n ≡ o → mode_left o < c.modes
@@ -227,7 +227,7 @@ module _ {m : Meaning} {c : Content} (laws : Lawful m) (sound : Sound m c) {roun
   all_scanned i k vs r = (reading_place i k vs r).2
 
   from_scan : (b : Option ReadingFound) → Scanned (λ i q. i < length c.rows) (length c.rows) b → (x : ReadingFound) → b ≡ Some x → RecordedReading m c log x.cost x.moves
-  from_scan None s x e = absurd (no_some x e)
+  from_scan None s x e = absurd (none-some x e)
   from_scan (Some f) s x e =
       let is : f ≡ x = cc in
       subst (λ (y : ReadingFound). RecordedReading m c log y.cost y.moves) is (record { last = f.row; reads = s.reads; below = s.below; least = λ i n ws r. s.least i n ws r (all_scanned i n ws r) })

@@ -20,9 +20,6 @@ module _ {m : Meaning} {c : Content} {log : List Record} where
   pub grown_same : {best : List (Option Entry)} {P : Record → Type 0} → BestOk m c log best → ((y : Record) → P y → ⊥) → Grown m c log best best P
   grown_same ok none = record { ok = ok; better = λ y k h. h; covers = λ y k p. absurd (none y p) }
 
-  pub grown_none : {best : List (Option Entry)} (Q : ℕ → Record → Type 0) → BestOk m c log best → Grown m c log best best (Upto Q 0)
-  grown_none Q ok = grown_same ok (λ y p. let h = p.1 in omega arith)
-
   pub grown_then : {a b d : List (Option Entry)} {P Q R : Record → Type 0} → Grown m c log a b P → Grown m c log b d Q → ((y : Record) → R y → P y ⊎ Q y) → Grown m c log a d R
   grown_then g h split = record {
     ok = h.ok;
@@ -57,12 +54,6 @@ pair_parts c s q s' q' small on on' e = let h = number_in c q small on in let h'
 kept_test : {m : Meaning} (c : Content) (laws : Lawful m) (f r : Entry) → Cost m f.cost → Cost m r.cost → (place_number c f.from ≡ place_number c r.from) × (place_number c f.to ≡ place_number c r.to) → Decided (keeps? m (Some f) r) (Precedes m c (record_of [] f) (record_of [] r)) (Precedes m c (record_of [] r) (record_of [] f))
 kept_test {m} c laws f r hf hr e = first (m.no_dearer r.cost f.cost) refl (m.no_dearer f.cost r.cost) refl (lex_test (derivation_key (derivation_of f.source)) (derivation_key (derivation_of r.source)))
   where
-    kf : List ℕ
-    kf = derivation_key (derivation_of f.source)
-
-    kr : List ℕ
-    kr = derivation_key (derivation_of r.source)
-
     first : (s : Bool) → m.no_dearer r.cost f.cost ≡ s → (t : Bool) → m.no_dearer f.cost r.cost ≡ t → Decided (lex? (derivation_key (derivation_of f.source)) (derivation_key (derivation_of r.source))) (Lex (derivation_key (derivation_of f.source)) (derivation_key (derivation_of r.source))) (Lex (derivation_key (derivation_of r.source)) (derivation_key (derivation_of f.source))) → Decided (cond s (cond t (lex? (derivation_key (derivation_of f.source)) (derivation_key (derivation_of r.source))) false) true) (Precedes m c (record_of [] f) (record_of [] r)) (Precedes m c (record_of [] r) (record_of [] f))
     first false g t h d = inl (refl, inl g)
     first true g false h d = inr (refl, inl h)

@@ -1,5 +1,6 @@
 -- Every call on a draft keeps its content sound.
-use Rattle.std.proofs.Common.{◌≡◌, ℕ, ◌*◌, ◌<◌, ◌≤◌, Bool, true, false, cond, List, length, Some, None, Option, sym, refl, ◌∙◌, subst, ⊎_elim, arith, length-append}
+use Rattle.std.proofs.Common.{◌≡◌, ℕ, ◌*◌, ◌<◌, ◌≤◌, Bool, true, false, cond, List, length, Some, None, Option, sym, refl, ap, ◌∙◌, subst, ⊎_elim, arith, length-append}
+use Rattle.std.proofs.lemmas.Option.{none-some}
 use Rattle.std.proofs.lemmas.Bool.{or_parts, not-false, eqb-true, eqb-false, ltb-false, leb-false}
 use Rattle.costs.specs.Meaning.{Meaning, Cost}
 use Rattle.board.specs.declared.row.RowKind.{RowKind}
@@ -9,13 +10,13 @@ use Rattle.board.specs.declared.row.Line.{Line}
 use Rattle.board.specs.declared.refusal.Refusal.{Refusal}
 use Rattle.board.specs.Refusals.{first, unless}
 use Rattle.board.specs.Rows.{formed}
-use Rattle.board.specs.Content.{Content, new, Sound, SoundRow, SoundLine}
-use Rattle.board.specs.Calls.{size_fault, with_size, size_after, row_fault, with_row, row_after, line_faults, line_fault, with_line, line_after, reprice_fault, row_at_cost, line_at_cost, with_row_cost, with_line_cost, reprice_row_after, reprice_line_after, without_lines, CallsKeep}
-use Rattle.board.proofs.Elements.{no_some, some_no, nth_push, nth_changed, nth_empty, length_changed, factors}
+use Rattle.board.specs.Content.{Content, content, new, Sound, SoundRow, SoundLine}
+use Rattle.board.specs.Calls.{changed, size_fault, with_size, size_after, row_fault, with_row, row_after, line_faults, line_fault, with_line, line_after, reprice_fault, row_at_cost, line_at_cost, with_row_cost, with_line_cost, reprice_row_after, reprice_line_after, without_lines, CallsKeep}
+use Rattle.board.proofs.Elements.{nth_push, nth_changed, nth_empty, length_changed, factors}
 
 -- where none of the reasons applies, the first does not, nor do the others
 pub none_first : {A : Type 0} (b : Bool) (e : A) (o : Option A) → cond b (Some e) o ≡ None → (b ≡ false) × (o ≡ None)
-none_first true e o h = absurd (some_no e h)
+none_first true e o h = absurd (none-some e (sym h))
 none_first false e o h = (refl, h)
 
 pub unless_keeps : {X : Type 0} (P : X → Type 0) (o : Option Refusal) (done old : X) → (o ≡ None → P done) → P old → P (unless o done old)
@@ -23,7 +24,7 @@ unless_keeps P None done old f h = f refl
 unless_keeps P (Some e) done old f h = h
 
 -- what is done to either outcome is done to the outcome
-pub unless_each : {X Y : Type 0} (h : X → Y) (o : Option Refusal) (done old : X) → h (unless o done old) ≡ unless o (h done) (h old)
+unless_each : {X Y : Type 0} (h : X → Y) (o : Option Refusal) (done old : X) → h (unless o done old) ≡ unless o (h done) (h old)
 unless_each h None done old = refl
 unless_each h (Some e) done old = refl
 
@@ -49,8 +50,8 @@ module _ (m : Meaning) where
     few_places = omega arith;
     few_rows = omega arith;
     few_lines = omega arith;
-    sound_rows = λ i r e. absurd (no_some r e);
-    sound_lines = λ i l e. absurd (no_some l e);
+    sound_rows = λ i r e. absurd (none-some r e);
+    sound_lines = λ i l e. absurd (none-some l e);
   }
 
   -- what a size that is not refused says
@@ -166,7 +167,7 @@ module _ (m : Meaning) where
     sound_lines = λ i l e. line_on c (with_row_cost c j k) l refl (h.sound_lines i l e);
   }
 
-  pub reprice_row_keeps : (c : Content) (j k : ℕ) → Sound m c → Sound m (reprice_row_after m c j k)
+  reprice_row_keeps : (c : Content) (j k : ℕ) → Sound m c → Sound m (reprice_row_after m c j k)
   reprice_row_keeps c j k h = unless_keeps (Sound m) (reprice_fault m c.rows j k) (with_row_cost c j k) c (λ e. with_row_cost_sound c j k h (priced c.rows j k e)) h
 
   with_line_cost_sound : (c : Content) (j k : ℕ) → Sound m c → Cost m k → Sound m (with_line_cost c j k)
@@ -180,8 +181,19 @@ module _ (m : Meaning) where
     sound_lines = λ i x e. line_on c (with_line_cost c j k) x refl (⊎_elim (h.sound_lines i x) (λ f. subst (SoundLine m c) (sym f.2) (line_priced c f.0 k (h.sound_lines i f.0 f.1) p)) (nth_changed _ c.lines j i x e));
   }
 
-  pub reprice_line_keeps : (c : Content) (j k : ℕ) → Sound m c → Sound m (reprice_line_after m c j k)
+  reprice_line_keeps : (c : Content) (j k : ℕ) → Sound m c → Sound m (reprice_line_after m c j k)
   reprice_line_keeps c j k h = unless_keeps (Sound m) (reprice_fault m c.lines j k) (with_line_cost c j k) c (λ e. with_line_cost_sound c j k h (priced c.lines j k e)) h
+
+  -- the rows, and the lines, as a repricing leaves them
+  pub rows_repriced : (c : Content) (j k : ℕ) (rs : List Row) → rs ≡ unless (reprice_fault m c.rows j k) (changed (row_at_cost k) c.rows j) c.rows → Sound m c → Sound m (content c.modes c.moments rs c.lines)
+  rows_repriced c j k rs e h =
+      let put = λ (xs : List Row). content c.modes c.moments xs c.lines in
+      subst (Sound m) (sym (ap put e ∙ unless_each put (reprice_fault m c.rows j k) (changed (row_at_cost k) c.rows j) c.rows)) (reprice_row_keeps c j k h)
+
+  pub lines_repriced : (c : Content) (j k : ℕ) (ls : List Line) → ls ≡ unless (reprice_fault m c.lines j k) (changed (line_at_cost k) c.lines j) c.lines → Sound m c → Sound m (content c.modes c.moments c.rows ls)
+  lines_repriced c j k ls e h =
+      let put = λ (xs : List Line). content c.modes c.moments c.rows xs in
+      subst (Sound m) (sym (ap put e ∙ unless_each put (reprice_fault m c.lines j k) (changed (line_at_cost k) c.lines j) c.lines)) (reprice_line_keeps c j k h)
 
   pub clear_keeps : (c : Content) → Sound m c → Sound m (without_lines c)
   clear_keeps c h = record {
@@ -191,7 +203,7 @@ module _ (m : Meaning) where
     few_rows = h.few_rows;
     few_lines = omega arith;
     sound_rows = λ i x e. row_on c (without_lines c) x refl (h.sound_rows i x e);
-    sound_lines = λ i l e. absurd (no_some l e);
+    sound_lines = λ i l e. absurd (none-some l e);
   }
 
 pub calls_keep : (m : Meaning) → CallsKeep m

@@ -1,7 +1,6 @@
 pub mod Elements
 pub mod Keeps
 pub mod Balance
-pub mod Checked
 pub mod Naming
 pub mod Accepting
 pub mod Laws

@@ -9,10 +9,6 @@ use Rattle.board.specs.declared.log.Source.TheVariants.{Start, Step, Call}
 use Rattle.board.specs.Logged.{settled_as, spelled, derivation_of, record_of, blank, logged, record_at}
 use Rattle.board.specs.Grown.{Refers}
 
-pub logged_more : (rs : List Entry) (n : ℕ) → logged rs (suc n) ≡ record_at rs n ∷ logged rs n
-unfolding logged
-logged_more rs n = refl
-
 pub logged_none : (rs : List Entry) → logged rs 0 ≡ []
 unfolding logged
 logged_none rs = refl
@@ -67,14 +63,18 @@ unfolding logged
 logged_push rs n r h = ap₂ (λ (l : List Record) (x : Entry). record_of l x ∷ l) (logged_set rs n n r (omega arith)) (get_or-set_same rs n r blank h)
 
 -- how many moves are spelled out
-pub step_length : (rs : List Entry) (n i : ℕ) (v : Move) → i < n → length (spelled (logged rs n) (Step i v)) ≡ length (record_at rs i).moves + 1
-step_length rs n i v h = ap (λ (e : Record). length (e.moves ++ (v ∷ []))) (settled_is rs n i h) ∙ length-append (record_at rs i).moves (v ∷ [])
+pub step_length : (rs : List Entry) (n : ℕ) {s : Source} {i : ℕ} {v : Move} → s ≡ Step i v → Refers n s → (i < n) × (length (spelled (logged rs n) s) ≡ length (record_at rs i).moves + 1)
+step_length rs n {s} {i} {v} is refers =
+    let h : i < n = subst (Refers n) is refers in
+    (h, ap (λ (z : Source). length (spelled (logged rs n) z)) is ∙ ap (λ (e : Record). length (e.moves ++ (v ∷ []))) (settled_is rs n i h) ∙ length-append (record_at rs i).moves (v ∷ []))
 
-pub call_length : (rs : List Entry) (n i j o w t : ℕ) → i < n → j < n → length (spelled (logged rs n) (Call i j o w t)) ≡ length (record_at rs i).moves + length (record_at rs j).moves + 2
-call_length rs n i j o w t h k =
+pub call_length : (rs : List Entry) (n : ℕ) {s : Source} {i j o w t : ℕ} → s ≡ Call i j o w t → Refers n s → (i < n) × (j < n) × (length (spelled (logged rs n) s) ≡ length (record_at rs i).moves + length (record_at rs j).moves + 2)
+call_length rs n {s} {i} {j} {o} {w} {t} is refers =
+    let h : (i < n) × (j < n) = subst (Refers n) is refers in
     let a = (record_at rs i).moves in
     let b = (record_at rs j).moves in
-    let e = ap₂ (λ (x y : Record). length (x.moves ++ (bare o ∷ (y.moves ++ (bare w ∷ []))))) (settled_is rs n i h) (settled_is rs n j k) in
+    let e = ap (λ (z : Source). length (spelled (logged rs n) z)) is in
+    let d = ap₂ (λ (x y : Record). length (x.moves ++ (bare o ∷ (y.moves ++ (bare w ∷ []))))) (settled_is rs n i h.0) (settled_is rs n j h.1) in
     let f = length-append a (bare o ∷ (b ++ (bare w ∷ []))) in
     let g = length-append b (bare w ∷ []) in
-    omega (arith, e, f, g)
+    (h.0, h.1, omega (arith, e, d, f, g))

@@ -36,4 +36,4 @@ pub some_eq : {A : Type 0} (o : Option A) (x y : A) → o ≡ Some x → o ≡ S
 some_eq o x y e f = cc
 
 pub none_some : {A : Type 0} (o : Option A) (x : A) → o ≡ None → o ≡ Some x → ⊥
-none_some o x e f = let z : ◌≡◌ {A = ℕ} 0 1 = cc in omega arith
+none_some o x e f = cc

@@ -1,5 +1,6 @@
 -- What a move names starts at a place and leads on exactly where the move is a transition.
-use Rattle.std.proofs.Common.{◌≡◌, ℕ, Bool, true, false, cond, Some, None, Option, sym, refl, ap, ◌∙◌, subst, inl, inr, ⊎_elim, arith}
+use Rattle.std.proofs.Common.{◌≡◌, ℕ, Bool, true, false, cond, Some, None, Option, sym, refl, ap, ◌∙◌, subst, inl, inr, ⊎_elim}
+use Rattle.std.proofs.lemmas.Option.{none-some, same_Some}
 use Rattle.std.specs.List.{slice_get}
 use Rattle.std.proofs.lemmas.Bool.{eqb-true, eqb-false, ltb-true, lt-ltb, eq-eqb, ne_eqb, and_parts, and_from, cond-true, cond-false, not-true, not-false, not_from_true, not_from_false}
 use Rattle.costs.specs.Meaning.{Meaning}
@@ -14,25 +15,21 @@ use Rattle.board.specs.declared.named.Named.{Named}
 use Rattle.board.specs.Content.{Content}
 use Rattle.board.specs.Moves.{Place, mode, moment, effect, Untimed, Timed, Transition, EndMoment}
 use Rattle.board.specs.Arrivals.{alone, along, takes_line, named_line, named_by, named_row, named, timely, starts_at, leads}
-use Rattle.board.proofs.Elements.{no_some}
-
-pub some_in : {A : Type 0} (x y : A) → Some x ≡ Some y → x ≡ y
-some_in x y e = cc
 
 pub cond_some : {A : Type 0} (b : Bool) (x : Option A) (y : A) → cond b x None ≡ Some y → (b ≡ true) × (x ≡ Some y)
 cond_some true x y e = (refl, e)
-cond_some false x y e = absurd (no_some y e)
+cond_some false x y e = absurd (none-some y e)
 
 cond_other : {A : Type 0} (b : Bool) (x : Option A) (y : A) → cond b None x ≡ Some y → (b ≡ false) × (x ≡ Some y)
-cond_other true x y e = absurd (no_some y e)
+cond_other true x y e = absurd (none-some y e)
 cond_other false x y e = (refl, e)
 
 -- a row that takes no line has no event
 no_line : (k : RowKind) (label : ℕ) → takes_line k label ≡ false → k ≡ Plain → label ≡ 0
 no_line Plain label h e = eqb-true _ _ (not-false _ h)
-no_line Open label h e = absurd (let z : ◌≡◌ {A = ℕ} 0 1 = cc in omega arith)
-no_line Close label h e = absurd (let z : ◌≡◌ {A = ℕ} 0 1 = cc in omega arith)
-no_line End label h e = absurd (let z : ◌≡◌ {A = ℕ} 0 1 = cc in omega arith)
+no_line Open label h e = absurd cc
+no_line Close label h e = absurd cc
+no_line End label h e = absurd cc
 
 from_no_line : (k : RowKind) (label : ℕ) → (k ≡ Plain → label ≡ 0) → takes_line k label ≡ false
 from_no_line Plain label f = not_from_true _ (eq-eqb _ _ (f refl))
@@ -43,14 +40,14 @@ from_no_line End label f = refl
 -- a row that takes a line is plain and has an event
 a_line : (k : RowKind) (label : ℕ) → takes_line k label ≡ true → (k ≡ Plain) × (label ≡ 0 → ⊥)
 a_line Plain label h = (refl, eqb-false _ _ (not-true _ h))
-a_line Open label h = absurd (let z : ◌≡◌ {A = ℕ} 0 1 = cc in omega arith)
-a_line Close label h = absurd (let z : ◌≡◌ {A = ℕ} 0 1 = cc in omega arith)
-a_line End label h = absurd (let z : ◌≡◌ {A = ℕ} 0 1 = cc in omega arith)
+a_line Open label h = absurd cc
+a_line Close label h = absurd cc
+a_line End label h = absurd cc
 
 timely_true : (k : RowKind) (n t : ℕ) → timely k n t ≡ true → k ≡ End → EndMoment n t
-timely_true Plain n t h e = absurd (let z : ◌≡◌ {A = ℕ} 0 1 = cc in omega arith)
-timely_true Open n t h e = absurd (let z : ◌≡◌ {A = ℕ} 0 1 = cc in omega arith)
-timely_true Close n t h e = absurd (let z : ◌≡◌ {A = ℕ} 0 1 = cc in omega arith)
+timely_true Plain n t h e = absurd cc
+timely_true Open n t h e = absurd cc
+timely_true Close n t h e = absurd cc
 timely_true End n t h e = h
 
 timely_from : (k : RowKind) (n t : ℕ) → (k ≡ End → EndMoment n t) → timely k n t ≡ true
@@ -75,16 +72,16 @@ module _ (m : Meaning) (c : Content) (v : Move) (p : Place) where
       record { by = r; found = found; leaves = eqb-true _ _ z.0; enters = refl; does = refl; time = inr (record { number = j; taken = l; along = with; found = held; is_plain = is_plain; some_event = some_event; same_event = same; start = eqb-true _ _ z.1; arrive = refl; price = refl }) }
 
   by_line : (r : Row) (n : Named) (j : ℕ) (o : Option Line) → slice_get c.rows v.row ≡ Some r → slice_get c.lines j ≡ o → v.line ≡ Some j → r.kind ≡ Plain → (r.label ≡ 0 → ⊥) → named_line r o ≡ Some n → starts_at c.moments n p ≡ true → Going n
-  by_line r n j None found held with is_plain some_event e s = absurd (no_some n e)
+  by_line r n j None found held with is_plain some_event e s = absurd (none-some n e)
   by_line r n j (Some l) found held with is_plain some_event e s =
       let z = cond_some _ _ _ e in
-      let n-is : along r l ≡ n = some_in _ _ z.1 in
+      let n-is : along r l ≡ n = same_Some _ _ z.1 in
       subst Going n-is (along_goes r l j found held with is_plain some_event (eqb-true _ _ z.0) (subst (λ x. starts_at c.moments x p ≡ true) (sym n-is) s))
 
   by_time : (r : Row) (w : Option ℕ) (n : Named) → slice_get c.rows v.row ≡ Some r → v.line ≡ w → named_by c.lines r w ≡ Some n → starts_at c.moments n p ≡ true → Going n
   by_time r None n found ew e s =
       let z = cond_other _ _ _ e in
-      let n-is : alone r ≡ n = some_in _ _ z.1 in
+      let n-is : alone r ≡ n = same_Some _ _ z.1 in
       subst Going n-is (alone_goes r found ew (no_line r.kind r.label z.0) (subst (λ x. starts_at c.moments x p ≡ true) (sym n-is) s))
   by_time r (Some j) n found ew e s =
       let z = cond_some _ _ _ e in
@@ -92,7 +89,7 @@ module _ (m : Meaning) (c : Content) (v : Move) (p : Place) where
       by_line r n j _ found refl ew k.0 k.1 z.1 s
 
   by_row : (o : Option Row) (n : Named) → slice_get c.rows v.row ≡ o → named_row c.lines v.line o ≡ Some n → starts_at c.moments n p ≡ true → Going n
-  by_row None n found e s = absurd (no_some n e)
+  by_row None n found e s = absurd (none-some n e)
   by_row (Some r) n found e s = by_time r v.line n found refl e s
 
   -- what is named and starts at the place is a transition

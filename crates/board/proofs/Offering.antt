@@ -1,18 +1,17 @@
 -- What offering one step or one call does.
-use Rattle.std.proofs.Common.{◌≡◌, ℕ, ◌<◌, List, [], ◌∷◌, ◌++◌, Some, None, Option, sym, refl, ap, ◌∙◌, subst, ap₂}
+use Rattle.std.proofs.Common.{◌≡◌, ℕ, ◌<◌, List, [], ◌∷◌, ◌++◌, Some, Option, sym, refl, ap, ◌∙◌, subst, ap₂}
 use Rattle.costs.specs.Meaning.{Meaning, Lawful, Cost}
 use Rattle.board.specs.Moves.{Place, Transition, On, moment}
 use Rattle.board.specs.declared.moves.Move.{Move}
 use Rattle.board.specs.declared.moves.Arrival.{Arrival}
-use Rattle.board.specs.declared.moves.Effect.{Effect}
 use Rattle.board.specs.declared.moves.Effect.TheVariants.{Quiet, Opens, Closes}
 use Rattle.board.specs.Settling.{Record, by_step, by_call, step_record, call_record, bare, Candidate, step, call}
 use Rattle.board.specs.Arrivals.{arrival_on}
 use Rattle.board.proofs.Transitions.{arrival_transition, transition_arrival}
-use Rattle.board.proofs.Decomposing.{transition_cost, transition_on}
+use Rattle.board.proofs.Decomposing.{transition_on}
 use Rattle.board.proofs.Minimal.{Priced}
 use Rattle.board.proofs.Pairs.{Based}
-use Rattle.board.proofs.Membership.{some_eq, none_some}
+use Rattle.board.proofs.Membership.{some_eq}
 use Rattle.board.specs.declared.log.Entry.{Entry}
 use Rattle.board.specs.declared.log.Log.{Log}
 use Rattle.board.specs.declared.log.Opening.{Opening}
@@ -23,7 +22,7 @@ use Rattle.board.specs.Offered.{offered}
 use Rattle.board.specs.Grown.{Offers}
 use Rattle.board.specs.Logs.{records, numbered, Ready, BestKept, Grows, nth_record, StepBy, CallBy, Opened}
 use Rattle.board.proofs.Logging.{logged_length, settled_is, in_logged, logged_in}
-use Rattle.board.proofs.Growing.{grown_same, grown_for, offered_grown, pair_in}
+use Rattle.board.proofs.Growing.{grown_for, offered_grown, pair_in}
 
 module _ {m : Meaning} {c : Content} {l : Log} (laws : Lawful m) (ready : Ready m c l) where
   pub all_priced : Priced m (records l)
@@ -32,14 +31,9 @@ module _ {m : Meaning} {c : Content} {l : Log} (laws : Lawful m) (ready : Ready 
   pub all_based : Based c (records l)
   all_based a h = let r = logged_in l.entries l.count a h in subst (λ (x : Record). On c x.from) (sym r.2) (ready.book.kept r.0 r.1).from_on
 
-  pub arrival_cost : (v : Move) (p : Place) (h : Arrival) → arrival_on m c v p ≡ Some h → Cost m h.cost
-  arrival_cost v p h e = transition_cost laws ready.sound (arrival_transition m c v p h e)
-
-  pub arrival_lands : (v : Move) (p : Place) (h : Arrival) → arrival_on m c v p ≡ Some h → On c h.to
-  arrival_lands v p h e = transition_on laws ready.sound (arrival_transition m c v p h e)
-
-  pub pair_room : (s q : Place) → On c s → On c q → pair_of c s q < 4096
-  pair_room s q on on' = pair_in c s q ready.sound.few_places on on'
+  -- the pair of a record and where an arrival leads
+  pub arrival_room : (i : ℕ) → i < l.count → (v : Move) (p : Place) (h : Arrival) → arrival_on m c v p ≡ Some h → pair_of c (numbered l i).from h.to < 4096
+  arrival_room i within v p h e = pair_in c (numbered l i).from h.to ready.sound.few_places (ready.book.kept i within).from_on (transition_on laws ready.sound (arrival_transition m c v p h e))
 
   -- one record that is a candidate, and all that P says is that
   one : {best best' : List (Option Entry)} (r : Entry) {P : Record → Type 0} → BestKept m c l best → Offers m c (records l) r → ((y : Record) → P y → y ≡ record_of (records l) r) → best' ≡ offered m best (pair_of c r.from r.to) r → Grows m c l best best' P
@@ -47,12 +41,6 @@ module _ {m : Meaning} {c : Content} {l : Log} (laws : Lawful m) (ready : Ready 
 
 -- the step from the record i by v
 module _ {m : Meaning} {c : Content} {l : Log} (laws : Lawful m) (ready : Ready m c l) (i : ℕ) (within : i < l.count) (v : Move) where
-  pub step_none : {best : List (Option Entry)} → BestKept m c l best → arrival_on m c v (numbered l i).to ≡ None → Grows m c l best best (StepBy m c l i v)
-  step_none ok e = grown_same ok (λ y s. none_some _ _ e (transition_arrival m c v (numbered l i).to s.q s.k Quiet s.goes))
-
-  pub step_loud : {best : List (Option Entry)} (h : Arrival) → BestKept m c l best → arrival_on m c v (numbered l i).to ≡ Some h → (h.effect ≡ Quiet → ⊥) → Grows m c l best best (StepBy m c l i v)
-  step_loud h ok e loud = grown_same ok (λ y s. loud (ap (λ (x : Arrival). x.effect) (some_eq _ _ _ e (transition_arrival m c v (numbered l i).to s.q s.k Quiet s.goes))))
-
   pub step_one : {best best' : List (Option Entry)} (h : Arrival) (k p : ℕ) → BestKept m c l best → arrival_on m c v (numbered l i).to ≡ Some h → h.effect ≡ Quiet → k ≡ m.join (numbered l i).cost h.cost → p ≡ pair_of c (numbered l i).from h.to → best' ≡ offered m best p (record { from = (numbered l i).from; to = h.to; cost = k; source = Step i v }) → Grows m c l best best' (StepBy m c l i v)
   step_one {best} {best'} h k p ok e quiet z at f = one laws ready (made k) ok off covers (f ∙ ap (λ (n : ℕ). offered m best n (made k)) at)
     where
@@ -78,26 +66,11 @@ module _ {m : Meaning} {c : Content} {l : Log} (laws : Lawful m) (ready : Ready 
 
 -- the call that the row w closes
 module _ {m : Meaning} {c : Content} {l : Log} (laws : Lawful m) (ready : Ready m c l) (o : Opening) (opened : Opened m c l o) (w : ℕ) where
-  pub opened_cost : Cost m o.cost
-  opened_cost =
-      let k = (ready.book.kept o.front opened.front_in).price in
-      let n = (ready.book.kept o.inside opened.inside_in).price in
-      subst (Cost m) (sym opened.cost_is) (laws.join_cost _ _ (laws.join_cost _ _ k (transition_cost laws ready.sound opened.goes)) n)
-
-  pub call_none : {best : List (Option Entry)} → BestKept m c l best → arrival_on m c (bare w) (numbered l o.inside).to ≡ None → Grows m c l best best (CallBy m c l o.front o.inside o.row w)
-  call_none ok e = grown_same ok (λ y s. none_some _ _ e (transition_arrival m c (bare w) (numbered l o.inside).to s.q s.l (Closes s.n) s.closes))
-
   closes_eq : (h : Arrival) → arrival_on m c (bare w) (numbered l o.inside).to ≡ Some h → (y : Record) (s : CallBy m c l o.front o.inside o.row w y) → h ≡ record { to = s.q; cost = s.l; effect = Closes s.n }
   closes_eq h e y s = some_eq _ _ _ e (transition_arrival m c (bare w) (numbered l o.inside).to s.q s.l (Closes s.n) s.closes)
 
   opens_eq : (y : Record) (s : CallBy m c l o.front o.inside o.row w y) → ◌≡◌ {A = Arrival} (record { to = (numbered l o.inside).from; cost = opened.price; effect = Opens o.bracket }) (record { to = (numbered l o.inside).from; cost = s.k; effect = Opens s.n })
   opens_eq y s = some_eq _ _ _ (transition_arrival m c (bare o.row) (numbered l o.front).to _ _ _ opened.goes) (transition_arrival m c (bare o.row) (numbered l o.front).to _ _ _ s.opens)
-
-  same_bracket : (x : ℕ) (f : Effect) → Opens o.bracket ≡ f → (n : ℕ) → f ≡ Opens n → o.bracket ≡ n
-  same_bracket x f e n g = cc
-
-  pub call_loud : {best : List (Option Entry)} (h : Arrival) → BestKept m c l best → arrival_on m c (bare w) (numbered l o.inside).to ≡ Some h → (h.effect ≡ Closes o.bracket → ⊥) → Grows m c l best best (CallBy m c l o.front o.inside o.row w)
-  call_loud h ok e loud = grown_same ok (λ y s. loud (ap (λ (x : Arrival). x.effect) (closes_eq h e y s) ∙ ap Closes (sym (same_bracket 0 _ refl s.n (ap (λ (x : Arrival). x.effect) (opens_eq y s))))))
 
   pub call_one : {best best' : List (Option Entry)} (h : Arrival) (k p : ℕ) → BestKept m c l best → arrival_on m c (bare w) (numbered l o.inside).to ≡ Some h → h.effect ≡ Closes o.bracket → k ≡ m.join o.cost h.cost → p ≡ pair_of c (numbered l o.front).from h.to → best' ≡ offered m best p (record { from = (numbered l o.front).from; to = h.to; cost = k; source = Call o.front o.inside o.row w (moment (numbered l o.front).to) }) → Grows m c l best best' (CallBy m c l o.front o.inside o.row w)
   call_one {best} {best'} h k p ok e shut z at f = one laws ready (made k) ok off covers (f ∙ ap (λ (n : ℕ). offered m best n (made k)) at)

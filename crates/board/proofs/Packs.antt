@@ -1,5 +1,6 @@
 -- The moves of an entry are small, and taking a packed move apart gives it back.
 use Rattle.std.proofs.Common.{◌≡◌, ℕ, zero, suc, ◌+◌, ◌*◌, ◌/◌, ◌%◌, ◌<◌, ◌⊎◌, List, [], ◌∷◌, map, length, get_or, Some, None, Option, refl, ap, ◌∙◌, ap₂, inl, inr, arith}
+use Rattle.std.proofs.lemmas.Option.{slice_get_within}
 use Rattle.std.proofs.lemmas.Bool.{lt-ltb, eq-eqb, ne_eqb, cond-true, cond-false}
 use Rattle.costs.specs.Meaning.{Meaning, Lawful}
 use Rattle.board.specs.declared.log.Log.{Log}
@@ -13,7 +14,6 @@ use Rattle.board.specs.Paths.{Path, stop, go}
 use Rattle.board.specs.Settling.{bare}
 use Rattle.board.specs.Spelled.{moves_at, move_of}
 use Rattle.board.specs.Packing.{line_bits, packed, SmallLine, Small, unpacked}
-use Rattle.board.proofs.Elements.{nth_below}
 use Rattle.board.proofs.Logging.{in_logged}
 use Rattle.board.proofs.Membership.{some_eq, none_some}
 use Rattle.board.proofs.Spelling.{spelled as spelled_path}
@@ -48,12 +48,12 @@ small_line d None r a b k s = tt
 small_line d (Some j) r a b k (inl s) = absurd (none_some _ _ s.alone refl)
 small_line {c = c} d (Some j) r a b k (inr s) =
     let e = some_eq _ _ _ s.along refl in
-    let h = nth_below c.lines s.number s.taken s.found in
+    let h = slice_get_within c.lines s.number s.taken s.found in
     omega (arith, d.few_lines, e)
 
 pub path_small : {m : Meaning} {c : Content} {vs : List Move} {p q : Place} {ks : List ℕ} {es : List Effect} → Sound m c → Path m c vs p q ks es → (k : ℕ) → k < length vs → Small (get_or vs k (bare 0))
 path_small d stop k h = absurd (omega arith)
-path_small {c = c} d (go {v} g p) zero h = (let r = nth_below c.rows v.row g.by g.found in omega (arith, d.few_rows), small_line d v.line g.by _ _ _ g.time)
+path_small {c = c} d (go {v} g p) zero h = (let r = slice_get_within c.rows v.row g.by g.found in omega (arith, d.few_rows), small_line d v.line g.by _ _ _ g.time)
 path_small d (go g p) (suc k) h = path_small d p k (omega arith)
 
 pub settled_small : {m : Meaning} {c : Content} (l : Log) (i : ℕ) → Lawful m → Sound m c → Reached m c (records l) → i < l.count → (k : ℕ) → k < length (moves_at l i) → Small (move_of l i k)

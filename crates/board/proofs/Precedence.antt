@@ -74,8 +74,8 @@ module _ {A : Type 0} (R : A → A → Type 0) (Good : A → Type 0) (test : A �
 
       choose : (t : Bool) → Decided t (R x y) (R y x) → First x ys (first_by test x ys) → First y ys (first_by test y ys) → First x (y ∷ ys) (first_by test (cond t x y) ys)
       choose true (inl d) p q = widen_x _ d.1 p
-      choose true (inr d) p q = absurd (let e = d.0 in let z : ◌≡◌ {A = ℕ} 0 1 = cc in omega arith)
-      choose false (inl d) p q = absurd (let e = d.0 in let z : ◌≡◌ {A = ℕ} 0 1 = cc in omega arith)
+      choose true (inr d) p q = absurd (let e = d.0 in cc)
+      choose false (inl d) p q = absurd (let e = d.0 in cc)
       choose false (inr d) p q = widen_y _ d.1 q
 
 module _ {m : Meaning} (laws : Lawful m) (c : Content) where

@@ -15,7 +15,7 @@ use Rattle.board.specs.declared.log.Source.TheVariants.{Start, Step, Call}
 use Rattle.board.specs.declared.log.Log.{Log}
 use Rattle.board.specs.Logged.{pair_of, spelled, record_of, logged, blank}
 use Rattle.board.specs.Grown.{Refers, Offers, BestOk, Stepped, Called}
-use Rattle.board.specs.Logs.{records, numbered, filled, Kept, Ready, BestKept, Grows, nth_record, Uses, pushed, State}
+use Rattle.board.specs.Logs.{records, numbered, filled, Kept, Book, Ready, BestKept, Grows, nth_record, Uses, pushed, State}
 use Rattle.board.proofs.Logging.{logged_in, logged_push, logged_set, record_stays}
 use Rattle.board.proofs.Growing.{pair_in}
 use Rattle.board.proofs.Stepping.{move_is}
@@ -70,7 +70,11 @@ called_of {m} {c} a b {o} {w} {q} {k} {l} {n} g h =
       is = ap₂ (λ (v u : Move). call_record m a v k b u l q) eo ew;
     }
 
-module _ {m : Meaning} {c : Content} {l : Log} (ready : Ready m c l) (p : ℕ) (r : Entry) (at : p ≡ pair_of c r.from r.to) (fresh : get_or l.index p None ≡ None) (kept : Kept m c r) (refers : Refers l.count r.source) (n : ℕ) (n-is : n ≡ min (length (spelled (records l) r.source)) 65536) where
+-- a fresh record pushed
+module _ {m : Meaning} {c : Content} {l : Log} (ready : Ready m c l) {p : ℕ} {r : Entry} (at : p ≡ pair_of c r.from r.to) (unsettled : get_or l.index (pair_of c r.from r.to) None ≡ None) (kept : Kept m c r) (refers : Refers l.count r.source) {n : ℕ} (n-is : n ≡ min (length (spelled (records l) r.source)) 65536) where
+  fresh : get_or l.index p None ≡ None
+  fresh = ap (λ (q : ℕ). get_or l.index q None) at ∙ unsettled
+
   pair_here : p < length l.index
   pair_here = let h = pair_in c r.from r.to ready.sound.few_places kept.from_on kept.to_on in omega (arith, ready.book.index_long)
 
@@ -80,7 +84,7 @@ module _ {m : Meaning} {c : Content} {l : Log} (ready : Ready m c l) (p : ℕ) (
   count_here : l.count < length l.entries
   count_here = let h = room_here in omega (arith, ready.book.long)
 
-  pub pushed_records : records (pushed l p r n) ≡ record_of (records l) r ∷ records l
+  pushed_records : records (pushed l p r n) ≡ record_of (records l) r ∷ records l
   pushed_records = ap (logged (set l.entries l.count r)) (add-one l.count) ∙ logged_push l.entries l.count r count_here
 
   numbered_new : numbered (pushed l p r n) l.count ≡ r
@@ -89,7 +93,7 @@ module _ {m : Meaning} {c : Content} {l : Log} (ready : Ready m c l) (p : ℕ) (
   numbered_old : (i : ℕ) → i < l.count → numbered (pushed l p r n) i ≡ numbered l i
   numbered_old i h = let ne : i ≢ l.count = omega arith in get_or-set_other l.entries l.count i r blank ne
 
-  pub place_new : nth_record (pushed l p r n) l.count ≡ record_of (records l) r
+  place_new : nth_record (pushed l p r n) l.count ≡ record_of (records l) r
   place_new = ap₂ (λ (e : List Record) (x : Entry). record_of e x) (logged_set l.entries l.count l.count r (omega arith)) numbered_new
 
   lengths_here : l.count < length l.lengths
@@ -108,7 +112,7 @@ module _ {m : Meaning} {c : Content} {l : Log} (ready : Ready m c l) (p : ℕ) (
   pair_at : Entry → ℕ
   pair_at x = pair_of c x.from x.to
 
-  pub pushed_ready : Ready m c (pushed l p r n)
+  pushed_ready : Ready m c (pushed l p r n)
   unfolding pair_at
   pushed_ready = record {
     sound = ready.sound;
@@ -134,7 +138,7 @@ module _ {m : Meaning} {c : Content} {l : Log} (ready : Ready m c l) (p : ℕ) (
     };
   }
 
-  pub pushed_ok : {best : List (Option Entry)} → BestKept m c l best → BestKept m c (pushed l p r n) best
+  pushed_ok : {best : List (Option Entry)} → BestKept m c l best → BestKept m c (pushed l p r n) best
   pushed_ok {best} ok = subst (λ (e : List Record). BestOk m c e best) (sym pushed_records) (record { long = ok.long; offers = λ q x e. offers_stays (record_of (records l) r) x (ok.offers q x e); placed = ok.placed })
 
   -- where a record of the new log stands
@@ -156,9 +160,23 @@ module _ {m : Meaning} {c : Content} {l : Log} (ready : Ready m c l) (p : ℕ) (
       inr (inr (o.row, inr (s.0, s.1, (w.row, subst₂ (λ (x z : Record). Called m c x z o.row w.row (call_record m a o k b w d q)) s.2 (new_is b e) (called_of a b g h)))))
   uses_new (call a b (inr i) g (inr j) h) = inl (call a b i g j h)
 
-  pub pushed_state : {best best' : List (Option Entry)} → State m c l best → Grows m c (pushed l p r n) best best' (Uses m c (pushed l p r n) l.count) → State m c (pushed l p r n) best'
+  pushed_state : {best best' : List (Option Entry)} → State m c l best → Grows m c (pushed l p r n) best best' (Uses m c (pushed l p r n) l.count) → State m c (pushed l p r n) best'
   pushed_state {best} {best'} s grown = record {
     ready = pushed_ready;
     ok = grown.ok;
     whole = λ y k. ⊎_elim (λ k'. grown.better y k (s.whole y k')) (λ u. grown.covers y k u) (uses_new (subst (λ (e : List Record). Candidate m c e y) pushed_records k));
   }
+
+  -- the log that the push leaves
+  module _ {new : Log} (is : new ≡ pushed l p r n) where
+    pub new_records : records new ≡ record_of (records l) r ∷ records l
+    new_records = ap records is ∙ pushed_records
+
+    pub new_book : Book m c new
+    new_book = subst (Book m c) (sym is) pushed_ready.book
+
+    pub new_ok : {best : List (Option Entry)} → BestKept m c l best → BestKept m c new best
+    new_ok {best} ok = subst (λ (x : Log). BestKept m c x best) (sym is) (pushed_ok ok)
+
+    pub new_state : {best best' : List (Option Entry)} → State m c l best → Grows m c new best best' (Uses m c new l.count) → State m c new best'
+    new_state {best} {best'} s grown = subst (λ (x : Log). State m c x best') (sym is) (pushed_state s (subst (λ (x : Log). Grows m c x best best' (Uses m c x l.count)) is grown))

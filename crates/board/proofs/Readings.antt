@@ -1,5 +1,5 @@
 -- The recorded reading is complete, and no complete reading is cheaper.
-use Rattle.std.proofs.Common.{◌≡◌, ℕ, ◌≤◌, true, eqb, ◌⊎◌, List, [], ◌∷◌, ◌++◌, None, sym, refl, ap, ◌∙◌, subst, subst₂, inl, inr, ⊎_elim, append-nil, arith}
+use Rattle.std.proofs.Common.{◌≡◌, ℕ, ◌≤◌, true, eqb, ◌⊎◌, List, [], ◌∷◌, ◌++◌, None, sym, refl, ap, ◌∙◌, subst, subst₂, inl, inr, ⊎_elim, append-nil}
 use Rattle.std.proofs.lemmas.Bool.{cases_Bool, and_parts, eqb-true}
 use Rattle.costs.specs.Meaning.{Meaning, Lawful, Cost, NoDearer}
 use Rattle.costs.specs.Lists.{joined}
@@ -24,20 +24,20 @@ use Rattle.board.proofs.Spelling.{spelled, path-++, balanced-++}
 use Rattle.board.proofs.Minimal.{minimal, priced}
 
 pub ends_kind : (k : RowKind) (n : ℕ) → Ends ≡ effect_of k n → k ≡ End
-ends_kind Plain n e = absurd (let z : ◌≡◌ {A = ℕ} 0 1 = cc in omega arith)
-ends_kind Open n e = absurd (let z : ◌≡◌ {A = ℕ} 0 1 = cc in omega arith)
-ends_kind Close n e = absurd (let z : ◌≡◌ {A = ℕ} 0 1 = cc in omega arith)
+ends_kind Plain n e = absurd cc
+ends_kind Open n e = absurd cc
+ends_kind Close n e = absurd cc
 ends_kind End n e = refl
 
 -- an end row's modes are equal
 end_modes : (k : RowKind) (r : Row) → formed k r ≡ true → k ≡ End → r.from ≡ r.to
-end_modes Plain r h e = absurd (let z : ◌≡◌ {A = ℕ} 0 1 = cc in omega arith)
-end_modes Open r h e = absurd (let z : ◌≡◌ {A = ℕ} 0 1 = cc in omega arith)
-end_modes Close r h e = absurd (let z : ◌≡◌ {A = ℕ} 0 1 = cc in omega arith)
+end_modes Plain r h e = absurd cc
+end_modes Open r h e = absurd cc
+end_modes Close r h e = absurd cc
 end_modes End r h e = eqb-true _ _ (and_parts (eqb r.action 0) _ (and_parts (eqb r.label 0) _ h).1).1
 
 plain_not_end : (k : RowKind) → k ≡ Plain → k ≡ End → ⊥
-plain_not_end k e f = let z : ◌≡◌ {A = ℕ} 0 1 = cc in omega arith
+plain_not_end k e f = cc
 
 -- a path taken apart at its last move
 record LastMove (m : Meaning) (c : Content) (p q : Place) (ks : List ℕ) (es : List Effect) (e : Effect) : Type 0 where

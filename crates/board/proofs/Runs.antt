@@ -1,5 +1,5 @@
 -- The function `run` goes on by rounds, and where `next` gives nothing the log is settled.
-use Rattle.std.proofs.Common.{◌≡◌, ℕ, zero, suc, Bool, true, false, cond, not, ◌&&◌, ◌⊎◌, List, [], ◌∷◌, Some, None, Option, sym, refl, ap, ◌∙◌, subst, inl, inr, arith}
+use Rattle.std.proofs.Common.{◌≡◌, ℕ, zero, suc, Bool, true, false, cond, not, ◌&&◌, ◌⊎◌, List, [], ◌∷◌, Some, None, Option, sym, refl, ap, ◌∙◌, subst, inl, inr}
 use Rattle.std.proofs.lemmas.Bool.{both_ways, and_parts, and_from, not-true, eq-eqb}
 use Rattle.costs.specs.Meaning.{Meaning, Lawful, Cost, NoDearer}
 use Rattle.board.specs.Content.{Content, Sound}
@@ -59,7 +59,7 @@ module _ {m : Meaning} {c : Content} (laws : Lawful m) (sound : Sound m c) where
 
   -- what `next` gives is the round's record
   next_some : {n : ℕ} {log : List Record} → Rounds m c n log → (x : Record) (xs : List Record) → unsettled_of log (candidates m c log) ≡ xs → next_of m c xs ≡ Some x → Round m c log x
-  next_some s x [] e f = absurd (let z : ◌≡◌ {A = ℕ} 0 1 = cc in omega arith)
+  next_some s x [] e f = absurd cc
   next_some {log = log} s x (y ∷ ys) e f = stop? (m.no_dearer m.worst (first_by (precedes? m c) y ys).cost) refl f
     where
       is_first : In (first_by (precedes? m c) y ys) (y ∷ ys) × ((z : Record) → In z (y ∷ ys) → Precedes m c (first_by (precedes? m c) y ys) z)
@@ -76,7 +76,7 @@ module _ {m : Meaning} {c : Content} (laws : Lawful m) (sound : Sound m c) where
           }
 
       stop? : (t : Bool) → m.no_dearer m.worst (first_by (precedes? m c) y ys).cost ≡ t → cond t None (Some (first_by (precedes? m c) y ys)) ≡ Some x → Round m c log x
-      stop? true g h = absurd (let z : ◌≡◌ {A = ℕ} 0 1 = cc in omega arith)
+      stop? true g h = absurd cc
       stop? false g h =
           let b : first_by (precedes? m c) y ys ≡ x = cc in
           subst (Round m c log) b (made _ is_first.0 is_first.1 g)
@@ -101,7 +101,7 @@ module _ {m : Meaning} {c : Content} (laws : Lawful m) (sound : Sound m c) where
 
       stop? : (t : Bool) → m.no_dearer m.worst (first_by (precedes? m c) y ys).cost ≡ t → cond t None (Some (first_by (precedes? m c) y ys)) ≡ None → NoDearer m m.worst x.cost
       stop? true g h = let hb = costs (first_by (precedes? m c) y ys) is_first.0 in laws.trans _ _ _ laws.worst_cost hb (costs x i) g (within (first_by (precedes? m c) y ys) hb (is_first.1 x i))
-      stop? false g h = absurd (let z : ◌≡◌ {A = ℕ} 0 1 = cc in omega arith)
+      stop? false g h = absurd cc
 
   pub next_done : {n : ℕ} {log : List Record} → Rounds m c n log → next m c log ≡ None → Settled m c log
   next_done {n} {log} s e = record {

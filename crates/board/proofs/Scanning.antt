@@ -1,36 +1,16 @@
 -- Steps of the scan for the recorded reading.
-use Rattle.std.proofs.Common.{◌≡◌, ℕ, ◌+◌, ◌<◌, ◌≤◌, Bool, true, false, cond, List, [], ◌∷◌, ◌++◌, length, get_or, Some, None, Option, sym, refl, ap, ◌∙◌, add-one, arith}
+use Rattle.std.proofs.Common.{◌≡◌, ℕ, ◌+◌, ◌<◌, ◌≤◌, Bool, true, false, cond, List, length, get_or, Some, None, Option, sym, refl, ap, ◌∙◌, add-one, arith}
 use Rattle.std.specs.List.{slice_get}
-use Rattle.std.proofs.lemmas.Bool.{cond-true}
 use Rattle.costs.specs.Meaning.{Meaning}
 use Rattle.board.specs.declared.row.Row.{Row}
-use Rattle.board.specs.declared.moves.Arrival.{Arrival}
 use Rattle.board.specs.declared.log.Log.{Log}
 use Rattle.board.specs.declared.reading.Reading.{Reading}
 use Rattle.board.specs.Boards.{reading_of}
 use Rattle.board.specs.Entries.{ReadingIn}
 use Rattle.board.specs.Content.{Content}
-use Rattle.board.specs.Moves.{Place, is_end}
-use Rattle.board.specs.Settling.{Record, bare}
-use Rattle.board.specs.Arrivals.{arrival_on}
-use Rattle.board.specs.Computing.{ReadingFound, ending, reading_at, limit_by, better_by, better, best_moments, mode_left, best_rows, found}
-use Rattle.board.proofs.Elements.{nth_below}
+use Rattle.board.specs.Settling.{Record}
+use Rattle.board.specs.Computing.{ReadingFound, reading_at, limit_by, better_by, better, best_moments, mode_left, best_rows, found}
 use Rattle.std.proofs.lemmas.Option.{slice_get-get_or}
-use Rattle.board.proofs.Transitions.{arrival_transition}
-
--- a reading by what was found of its row and its record
-pub ending_is : (m : Meaning) (i k : ℕ) (h : Arrival) (a : Record) (o : Option Arrival) (b : Option Record) → Some h ≡ o → Some a ≡ b → true ≡ is_end h.effect → k ≡ m.join a.cost h.cost → Some (record { row = i; cost = k; moves = a.moves ++ (bare i ∷ []) }) ≡ ending m i o b
-ending_is m i k h a o b e f t c =
-    ap (λ x. Some (record { row = i; cost = x; moves = a.moves ++ (bare i ∷ []) })) c
-    ∙ sym (cond-true _ _ _ (sym t))
-    ∙ ap (ending m i (Some h)) f
-    ∙ ap (λ x. ending m i x b) e
-
--- a row that leads somewhere is held
-pub row_listed : (m : Meaning) (c : Content) (i : ℕ) (p : Place) (h : Arrival) → Some h ≡ arrival_on m c (bare i) p → i < length c.rows
-row_listed m c i p h e =
-    let g = arrival_transition m c (bare i) p h (sym e) in
-    nth_below c.rows i g.by g.found
 
 -- no moments yet, and one more
 pub moments_none : (m : Meaning) (c : Content) (log : List Record) (i n : ℕ) (b : Option ReadingFound) → b ≡ best_moments m c log i n 0 b

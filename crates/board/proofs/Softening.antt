@@ -1,5 +1,7 @@
 -- Adding, and repricing no dearer, eases a content.
-use Rattle.std.proofs.Common.{◌≡◌, ℕ, zero, suc, ◌⊎◌, List, [], ◌∷◌, ◌++◌, Some, Option, refl, ◌∙◌, subst, inl, inr, ⊎_elim}
+use Rattle.std.proofs.Common.{◌≡◌, ℕ, zero, suc, ◌⊎◌, List, [], ◌∷◌, ◌++◌, Some, refl, ◌∙◌, subst, inl, inr, ⊎_elim}
+use Rattle.board.proofs.Membership.{some_eq}
+use Rattle.std.proofs.lemmas.Option.{none-some}
 use Rattle.std.specs.List.{slice_get}
 use Rattle.costs.specs.Meaning.{Meaning, Lawful, NoDearer}
 use Rattle.board.specs.declared.row.Row.{Row}
@@ -7,14 +9,10 @@ use Rattle.board.specs.declared.row.Line.{Line}
 use Rattle.board.specs.Content.{Content, Sound}
 use Rattle.board.specs.Calls.{changed, row_at_cost, line_at_cost, with_row, with_line, with_row_cost, with_line_cost}
 use Rattle.board.specs.Ease.{Eased, EasedRow, EasedLine, CallsEase}
-use Rattle.board.proofs.Elements.{no_some}
 use Rattle.board.proofs.Laws.{no_dearer_same}
 
-same_element : {A : Type 0} (o : Option A) (x y : A) → o ≡ Some x → o ≡ Some y → x ≡ y
-same_element o x y e f = cc
-
 nth_stays : {A : Type 0} (xs : List A) (x : A) (i : ℕ) (y : A) → slice_get xs i ≡ Some y → slice_get (xs ++ (x ∷ [])) i ≡ Some y
-nth_stays [] x i y e = absurd (no_some y e)
+nth_stays [] x i y e = absurd (none-some y e)
 nth_stays (z ∷ xs) x zero y e = e
 nth_stays (z ∷ xs) x (suc i) y e = nth_stays xs x i y e
 
@@ -79,7 +77,7 @@ module _ {m : Meaning} (laws : Lawful m) where
     moments_same = refl;
     rows_eased = λ i x g. ⊎_elim
         (λ f. (x, f, same_row c h i x g))
-        (λ f. (row_at_cost k x, f.1, record { kind_same = refl; from_same = refl; to_same = refl; label_same = refl; cost_eased = subst (λ (z : Row). NoDearer m k z.cost) (same_element _ _ _ e f.0) w }))
+        (λ f. (row_at_cost k x, f.1, record { kind_same = refl; from_same = refl; to_same = refl; label_same = refl; cost_eased = subst (λ (z : Row). NoDearer m k z.cost) (some_eq _ _ _ e f.0) w }))
         (changed_nth (row_at_cost k) c.rows j i x g);
     lines_eased = λ i l g. (l, g, same_line c h i l g);
   }
@@ -91,7 +89,7 @@ module _ {m : Meaning} (laws : Lawful m) where
     rows_eased = λ i r g. (r, g, same_row c h i r g);
     lines_eased = λ i x g. ⊎_elim
         (λ f. (x, f, same_line c h i x g))
-        (λ f. (line_at_cost k x, f.1, record { from_same = refl; to_same = refl; event_same = refl; cost_eased = subst (λ (z : Line). NoDearer m k z.cost) (same_element _ _ _ e f.0) w }))
+        (λ f. (line_at_cost k x, f.1, record { from_same = refl; to_same = refl; event_same = refl; cost_eased = subst (λ (z : Line). NoDearer m k z.cost) (some_eq _ _ _ e f.0) w }))
         (changed_nth (line_at_cost k) c.lines j i x g);
   }
 

@@ -1,10 +1,10 @@
 -- The empty log, and the diagonal.
-use Rattle.std.proofs.Common.{◌≡◌, ℕ, zero, suc, ◌+◌, ◌<◌, ◌≤◌, List, [], ◌∷◌, ◌++◌, get_or, replicate, Some, None, Option, sym, refl, ap, ◌∙◌, subst, ap₂, ⊎_elim, add-one, arith}
+use Rattle.std.proofs.Common.{◌≡◌, ℕ, zero, suc, ◌<◌, List, [], ◌++◌, get_or, replicate, Some, None, Option, sym, refl, ap, ◌∙◌, subst, ⊎_elim, arith}
 use lib.ListN.{length-replicate}
 use Rattle.costs.specs.Meaning.{Meaning}
 use Rattle.board.specs.Moves.{Place, moment, mode}
 use Rattle.board.specs.Content.{Content, Sound}
-use Rattle.board.specs.Settling.{In, Record, start, starts, places, moments_of, Candidate, step, call}
+use Rattle.board.specs.Settling.{In, Record, starts, places, moments_of, Candidate, step, call}
 use Rattle.board.proofs.Diagonal.{started_in, moments_on, places_on}
 use Rattle.board.proofs.Membership.{in_split, none_some}
 use Rattle.board.proofs.Uniqueness.{number_eq}
@@ -56,24 +56,10 @@ empty_state {m} {c} d = record {
   whole = λ y k. absurd (no_candidate empty_records k);
 }
 
--- one place more of the diagonal
-pub start_more : (m : Meaning) (log log' : List Record) (mode moment n k : ℕ) → k ≡ m.free → log ≡ starts m (moments_of mode moment ++ places mode n) → log' ≡ record { from = (mode, moment); to = (mode, moment); cost = k; derivation = start; moves = [] } ∷ log → log' ≡ starts m (moments_of mode (moment + 1) ++ places mode n)
-start_more m log log' mode moment n k f e g =
-    g ∙ (ap₂ (λ (x : ℕ) (l : List Record). record { from = (mode, moment); to = (mode, moment); cost = x; derivation = start; moves = [] } ∷ l) f e
-    ∙ ap (λ (x : ℕ). starts m (moments_of mode x ++ places mode n)) (sym (add-one moment)))
-
-pub mode_more : (m : Meaning) (log : List Record) (mode moment n : ℕ) → moment ≤ n → n ≤ moment → log ≡ starts m (moments_of mode moment ++ places mode n) → log ≡ starts m (places (mode + 1) n)
-mode_more m log mode moment n h k e =
-    let z : moment ≡ n = omega arith in
-    e ∙ (ap (λ (x : ℕ). starts m (moments_of mode x ++ places mode n)) z ∙ ap (λ (x : ℕ). starts m (places x n)) (sym (add-one mode)))
-
 -- a place of the diagonal that has not come yet
 pub start_fresh : {m : Meaning} {c : Content} {l : Log} (n u : ℕ) → Ready m c l → n < c.modes → u < c.moments → records l ≡ starts m (moments_of n u ++ places n c.moments) → get_or l.index (pair_of c (n, u) (n, u)) None ≡ None
 start_fresh {m} {c} {l} n u ready hm ht e = by _ refl
   where
-    here : Place
-    here = (n, u)
-
     by : (o : Option ℕ) → get_or l.index (pair_of c (n, u) (n, u)) None ≡ o → get_or l.index (pair_of c (n, u) (n, u)) None ≡ None
     by None f = f
     by (Some i) f =

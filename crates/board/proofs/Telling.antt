@@ -1,53 +1,30 @@
 -- What cost and path tell of the reading that was found.
-use Rattle.std.proofs.Common.{◌≡◌, ℕ, ◌+◌, ◌<◌, ◌≤◌, min, true, false, leb, ◌⊎◌, List, [], ◌∷◌, ◌++◌, map, length, get_or, drop, set, Some, Ok, Err, Option, sym, ap, ◌∙◌, ap₂, inl, inr, arith, length-append}
-use Rattle.std.proofs.lemmas.Bool.{cond-true, cond-false, and_from, and_left, and_right, le-leb, lt-leb}
+use Rattle.std.proofs.Common.{◌≡◌, ℕ, ◌+◌, ◌<◌, ◌≤◌, min, true, leb, List, [], ◌∷◌, ◌++◌, map, length, get_or, drop, set, Some, Ok, Option, subst, sym, ap, ◌∙◌, ap₂, arith, length-append}
+use Rattle.std.proofs.lemmas.Bool.{cond-true, and_from, le-leb}
 use Rattle.std.proofs.lemmas.List.{append_assoc, map-append, length-map, drop_more, set_at}
-use Rattle.board.specs.declared.moves.Move.{Move}
+use Rattle.costs.specs.declared.kind.Kind.{Ghosts}
+use Rattle.costs.specs.Meaning.{Lawful}
+use Rattle.board.specs.declared.settled.Settled.{Settled}
+use Rattle.board.specs.Entries.{ReadingIn}
+use Rattle.board.specs.Spelled.{moves_at, move_of}
+use Rattle.board.proofs.Holding.{settled_of}
+use Rattle.board.proofs.Packs.{settled_small}
 use Rattle.board.specs.declared.log.Log.{Log}
 use Rattle.board.specs.declared.reading.Reading.{Reading}
-use Rattle.board.specs.declared.refusal.Refusal.TheVariants.{TooLong}
-use Rattle.board.specs.Packing.{packed}
+use Rattle.board.specs.Packing.{packed, Small}
 use Rattle.board.specs.Settling.{bare}
 use Rattle.board.specs.Logs.{nth_record}
-use Rattle.board.specs.Computing.{ReadingFound}
-use Rattle.board.specs.Boards.{reading_of}
-use Rattle.board.specs.Questions.{cost_told, fits, path_told, path_written}
+use Rattle.board.specs.Computing.{ReadingFound, found}
+use Rattle.board.specs.Boards.{reading_of, settled_content, settled_records}
+use Rattle.board.specs.Questions.{fits, path_told, path_written, path_answer, path_after}
 
+-- what is told of a reading in a log
 module _ (l : Log) (r : Reading) (o : Option ReadingFound) (is : reading_of l (Some r) ≡ o) (k : ℕ) (measured : k ≡ min (length (nth_record l r.entry).moves) 65536) where
-  moves : List Move
-  moves = (nth_record l r.entry).moves
-
   the_found : ReadingFound
   the_found = record { row = r.row; cost = r.cost; moves = (nth_record l r.entry).moves ++ (bare r.row ∷ []) }
 
   one_more : length ((nth_record l r.entry).moves ++ (bare r.row ∷ [])) ≡ length (nth_record l r.entry).moves + 1
   one_more = length-append (nth_record l r.entry).moves (bare r.row ∷ [])
-
-  pub cost_some : (n : ℕ) → n ≡ min (k + 1) 65536 → Ok (r.cost, n) ≡ cost_told o
-  cost_some n e =
-      let h = one_more in
-      let z : n ≡ min (length ((nth_record l r.entry).moves ++ (bare r.row ∷ []))) 65536 = omega arith in
-      ap (λ x. Ok (r.cost, x)) z ∙ ap cost_told is
-
-  -- too long for the buffer, or for any
-  long_test : (buffer : List ℕ) → (length buffer ≤ k) ⊎ (65535 ≤ k) → fits the_found buffer ≡ false
-  unfolding the_found
-  long_test buffer (inl h) =
-      let n = one_more in
-      let all = length ((nth_record l r.entry).moves ++ (bare r.row ∷ [])) in
-      let over : length buffer < all = omega arith in
-      and_left (leb all (length buffer)) (leb all 65535) (lt-leb _ _ over)
-  long_test buffer (inr h) =
-      let n = one_more in
-      let all = length ((nth_record l r.entry).moves ++ (bare r.row ∷ [])) in
-      let over : 65535 < all = omega arith in
-      and_right (leb all (length buffer)) (leb all 65535) (lt-leb _ _ over)
-
-  pub path_long : (buffer : List ℕ) → (length buffer ≤ k) ⊎ (65535 ≤ k) → (Err TooLong ≡ path_told o buffer) × (buffer ≡ path_written o buffer)
-  unfolding the_found
-  path_long buffer h =
-      let t = long_test buffer h in
-      (sym (cond-false _ _ _ t) ∙ ap (λ x. path_told x buffer) is, sym (cond-false _ _ _ t) ∙ ap (λ x. path_written x buffer) is)
 
   -- it fits
   fits_test : (buffer : List ℕ) → k < length buffer → k < 65535 → fits the_found buffer ≡ true
@@ -68,7 +45,7 @@ module _ (l : Log) (r : Reading) (o : Option ReadingFound) (is : reading_of l (S
       ∙ sym (append_assoc (map packed ms) (packed (bare r.row) ∷ []) (drop (n + 1) buffer))
       ∙ ap₂ (λ (y : List ℕ) (j : ℕ). y ++ drop j buffer) (sym (map-append packed ms (bare r.row ∷ []))) (sym one_more)
 
-  pub path_short : (buffer out : List ℕ) (n x : ℕ) → k < length buffer → k < 65535 → n ≡ length (nth_record l r.entry).moves → out ≡ map packed (nth_record l r.entry).moves ++ drop (length (nth_record l r.entry).moves) buffer → x ≡ packed (bare r.row) → (Ok (n + 1) ≡ path_told o buffer) × (set out n x ≡ path_written o buffer)
+  path_short : (buffer out : List ℕ) (n x : ℕ) → k < length buffer → k < 65535 → n ≡ length (nth_record l r.entry).moves → out ≡ map packed (nth_record l r.entry).moves ++ drop (length (nth_record l r.entry).moves) buffer → x ≡ packed (bare r.row) → (Ok (n + 1) ≡ path_told o buffer) × (set out n x ≡ path_written o buffer)
   unfolding the_found
   path_short buffer out n x h g e f z =
       let t = fits_test buffer h g in
@@ -77,3 +54,14 @@ module _ (l : Log) (r : Reading) (o : Option ReadingFound) (is : reading_of l (S
         ap Ok count ∙ sym (cond-true _ _ _ t) ∙ ap (λ y. path_told y buffer) is,
         ap (λ j. set out j x) e ∙ written_last buffer out x (omega arith) f z ∙ sym (cond-true _ _ _ t) ∙ ap (λ y. path_written y buffer) is,
       )
+
+-- what a settled board tells of the reading that it recorded
+module _ {K : Type 0} {k : Ghosts K} (laws : Lawful k.meaning) (s : Settled K k) {w : Option Reading} (r : Reading) (w-is : w ≡ Some r) (within : ReadingIn s.log.count (length s.tables.rows.items) w) where
+  in_log : r.entry < s.log.count
+  in_log = (subst (ReadingIn s.log.count (length s.tables.rows.items)) w-is within).0
+
+  pub told_small : (i : ℕ) → i < length (moves_at s.log r.entry) → Small (move_of s.log r.entry i)
+  told_small = let d = settled_of laws s in settled_small s.log r.entry laws s.tables.sound (d.rounds, d.reached) in_log
+
+  pub told_path : reading_of s.log w ≡ found k.meaning (settled_content s) (settled_records s) → (buffer out : List ℕ) (n x : ℕ) → get_or s.log.lengths r.entry 0 < length buffer → get_or s.log.lengths r.entry 0 < 65535 → n ≡ length (moves_at s.log r.entry) → out ≡ map packed (moves_at s.log r.entry) ++ drop (length (moves_at s.log r.entry)) buffer → x ≡ packed (bare r.row) → (Ok (n + 1) ≡ path_answer k.meaning (settled_content s) (settled_records s) buffer) × (set out n x ≡ path_after k.meaning (settled_content s) (settled_records s) buffer)
+  told_path which = path_short s.log r _ (ap (reading_of s.log) (sym w-is) ∙ which) _ (s.book.lengths_are r.entry in_log)

@@ -1,5 +1,6 @@
 -- The function `arrival_on` and the relation `Transition` say the same.
 use Rattle.std.proofs.Common.{◌≡◌, ℕ, Some, None, Option, refl, ap, ◌∙◌, subst}
+use Rattle.std.proofs.lemmas.Option.{none-some, same_Some}
 use Rattle.std.proofs.lemmas.Bool.{cond-true}
 use Rattle.costs.specs.Meaning.{Meaning}
 use Rattle.board.specs.declared.moves.Move.{Move}
@@ -9,16 +10,14 @@ use Rattle.board.specs.declared.named.Named.{Named}
 use Rattle.board.specs.Content.{Content}
 use Rattle.board.specs.Moves.{Place, Transition}
 use Rattle.board.specs.Arrivals.{named, leads, arrival_of, arrival_on}
-use Rattle.board.specs.Promises.{MovesComputed}
-use Rattle.board.proofs.Elements.{no_some}
-use Rattle.board.proofs.Naming.{some_in, cond_some, named_goes, goes_named}
+use Rattle.board.proofs.Naming.{cond_some, named_goes, goes_named}
 
 module _ (m : Meaning) (c : Content) (v : Move) (p : Place) (h : Arrival) where
   from_named : (o : Option Named) → named c v ≡ o → arrival_of m c.moments o p ≡ Some h → Transition m c v p h.to h.cost h.effect
-  from_named None n e = absurd (no_some h e)
+  from_named None n e = absurd (none-some h e)
   from_named (Some a) n e =
       let z = cond_some _ _ _ e in
-      subst (λ (h : Arrival). Transition m c v p h.to h.cost h.effect) (some_in (leads m a p) h z.1) (named_goes m c v p a n z.0)
+      subst (λ (h : Arrival). Transition m c v p h.to h.cost h.effect) (same_Some (leads m a p) h z.1) (named_goes m c v p a n z.0)
 
   pub arrival_transition : arrival_on m c v p ≡ Some h → Transition m c v p h.to h.cost h.effect
   arrival_transition e = from_named _ refl e
@@ -27,6 +26,3 @@ pub transition_arrival : (m : Meaning) (c : Content) (v : Move) (p q : Place) (k
 transition_arrival m c v p q k e g =
     let z = goes_named m c v p q k e g in
     ap (λ o. arrival_of m c.moments o p) z.named_so ∙ cond-true _ _ _ z.starts ∙ ap Some z.leads_on
-
-pub moves_computed : MovesComputed
-moves_computed m c v p h = (transition_arrival m c v p h.to h.cost h.effect, arrival_transition m c v p h)

@@ -45,22 +45,22 @@ number_eq c p q h g e = place_eq p q (sym (digits_div (mode p) h.1) ∙ ap (λ x
 
 line_eq : (w w' : Option ℕ) → line_key w ≡ line_key w' → w ≡ w'
 line_eq None None e = refl
-line_eq None (Some j) e = absurd (let z : ◌≡◌ {A = ℕ} 0 1 = cc in omega arith)
-line_eq (Some i) None e = absurd (let z : ◌≡◌ {A = ℕ} 0 1 = cc in omega arith)
+line_eq None (Some j) e = absurd cc
+line_eq (Some i) None e = absurd cc
 line_eq (Some i) (Some j) e = cc
 
 -- a plain row does nothing to the brackets
 plain_quiet : (k : RowKind) (n : ℕ) (e : Effect) → k ≡ Plain → e ≡ effect_of k n → e ≡ Quiet
 plain_quiet Plain n e h g = g
-plain_quiet Open n e h g = absurd (let z : ◌≡◌ {A = ℕ} 0 1 = cc in omega arith)
-plain_quiet Close n e h g = absurd (let z : ◌≡◌ {A = ℕ} 0 1 = cc in omega arith)
-plain_quiet End n e h g = absurd (let z : ◌≡◌ {A = ℕ} 0 1 = cc in omega arith)
+plain_quiet Open n e h g = absurd cc
+plain_quiet Close n e h g = absurd cc
+plain_quiet End n e h g = absurd cc
 
 pub opens_not_quiet : (n : ℕ) → Opens n ≡ Quiet → ⊥
-opens_not_quiet n e = let z : ◌≡◌ {A = ℕ} 0 1 = cc in omega arith
+opens_not_quiet n e = cc
 
 pub closes_not_quiet : (n : ℕ) → Closes n ≡ Quiet → ⊥
-closes_not_quiet n e = let z : ◌≡◌ {A = ℕ} 0 1 = cc in omega arith
+closes_not_quiet n e = cc
 
 module _ {m : Meaning} {c : Content} where
   -- a bracket takes no line and keeps the moment
@@ -96,8 +96,8 @@ module _ {m : Meaning} {c : Content} where
       let er : v.row ≡ v'.row = cc in
       let el : line_key v.line ≡ line_key v'.line = cc in
       same_step log a a' d i i' g g' ef et (move_eq v v' er (line_eq _ _ el))
-  same_candidate d (step a i g) (call a' b' i' g' j' h') ef et eh = absurd (let z : ◌≡◌ {A = ℕ} 0 1 = cc in omega arith)
-  same_candidate d (call a b i g j h) (step a' i' g') ef et eh = absurd (let z : ◌≡◌ {A = ℕ} 0 1 = cc in omega arith)
+  same_candidate d (step a i g) (call a' b' i' g' j' h') ef et eh = absurd cc
+  same_candidate d (call a b i g j h) (step a' i' g') ef et eh = absurd cc
   same_candidate {log} d (call a b {o = o} {w = w} i g j h) (call a' b' {o = o'} {w = w'} i' g' j' h') ef et eh =
       let eo : o.row ≡ o'.row = cc in
       let ew : w.row ≡ w'.row = cc in

@@ -1,6 +1,6 @@
-use Rattle.std.proofs.Common.{◌-◌, length, take, sym, ap, ◌∙◌, subst, arith}
+use Rattle.std.proofs.Common.{◌-◌, length, take, sym, ap, ◌∙◌, arith}
 use Rattle.std.proofs.lemmas.List.{take_all}
-use Rattle.board.specs.Packing.{packed, Small}
+use Rattle.board.specs.Packing.{packed}
 use Rattle.board.specs.Spelled.{moves_at}
 use Rattle.board.proofs.Unwinding.{counted, last_of, write_none, write_more}
 use Rattle.board.proofs.writing.write_moves.Goals as goal
@@ -17,7 +17,7 @@ pack-requires c =
     let ms = moves_at c.args.log.now c.args.i in
     let n = counted c.requires.spells c.args.i c.requires.within c.requires.short in
     let e = last_of ms _ c.loop-k.k c.previous.result c.loop-k-test.true (omega arith) (sym c.loop-k.invariant.1 ∙ c.previous.ensures.last) in
-    subst Small (sym e.1) (c.requires.small (c.loop-k.k - 1) (omega arith))
+    rw e.1 (c.requires.small (c.loop-k.k - 1) (omega arith))
 
 pub loop-k-preserved : goal.loop-k-preserved
 loop-k-preserved c =

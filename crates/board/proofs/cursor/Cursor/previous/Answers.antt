@@ -1,7 +1,8 @@
-use Rattle.std.proofs.Common.{◌≡◌, List, [], ◌∷◌, ◌++◌, Some, sym, ap, ◌∙◌, ⊎_elim, arith, length-append}
+use Rattle.std.proofs.Common.{◌≡◌, List, sym, ap, ◌∙◌, ⊎_elim, arith}
+use Rattle.std.proofs.lemmas.Option.{slice_get_within}
 use Rattle.std.specs.List.{slice_get}
 use Rattle.board.specs.declared.cursor.Pending.{Pending}
-use Rattle.board.proofs.Elements.{nth_push, nth_below}
+use Rattle.board.proofs.Elements.{nth_push}
 use Rattle.board.proofs.Unwinding.{call_in, step_last, call_last}
 use Rattle.board.proofs.cursor.Cursor.previous.Goals as goal
 
@@ -21,13 +22,10 @@ returns-in-Call-clause-walks c =
     let pushed : Pending = record { front = a.front; row = a.open } in
     record {
       room = omega (arith, i.1, c.push.ensures.len);
-      fronts = λ j p e.
-          let held : slice_get (s.stack.items ++ (pushed ∷ [])) j ≡ Some p = ap (λ (ps : List Pending). slice_get ps j) (sym c.push.ensures.items) ∙ e in
-          ⊎_elim (c.requires.walks.fronts j p) (λ (is : pushed ≡ p).
-          let front : a.front ≡ p.front = ap (λ (x : Pending). x.front) is in
-          let within = nth_below _ j p held in
-          let long = length-append s.stack.items (pushed ∷ []) in
-          omega (arith, i.0)) (nth_push s.stack.items pushed j p held);
+      fronts = λ j p e. ⊎_elim
+          (c.requires.walks.fronts j p)
+          (λ (is : pushed ≡ p). let front : a.front ≡ p.front = ap (λ (x : Pending). x.front) is in omega (arith, i.0, slice_get_within _ j p e, c.push.ensures.len))
+          (nth_push s.stack.items pushed j p (ap (λ (ps : List Pending). slice_get ps j) (sym c.push.ensures.items) ∙ e));
     }
 
 pub returns-in-Call-clause-last : goal.returns-in-Call-clause-last

@@ -1,6 +1,5 @@
-use Rattle.std.proofs.Common.{◌≡◌, sym, subst, rules}
-use Rattle.board.specs.Content.{content, Sound}
-use Rattle.board.specs.Calls.{line_after}
+use Rattle.std.proofs.Common.{sym, subst, rules}
+use Rattle.board.specs.Content.{Sound}
 use Rattle.board.specs.Held.{held}
 use Rattle.board.proofs.Keeps.{line_keeps}
 use Rattle.board.proofs.draft.Draft.add_line.Goals as goal
@@ -9,5 +8,4 @@ pub invariant_of-tables : goal.invariant_of-tables
 invariant_of-tables g c =
     let m = g.K.Kind.meaning in
     let t = c.args.self.now.tables in
-    let after : content t.modes t.moments t.rows.items c.push.new.self.items ≡ line_after m (held t) c.args.line = search rules in
-    record { sound = subst (Sound m) (sym after) (line_keeps m (held t) c.args.line t.sound) }
+    record { sound = subst (Sound m) (sym (search rules)) (line_keeps m (held t) c.args.line t.sound) }

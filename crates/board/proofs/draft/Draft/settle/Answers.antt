@@ -1,28 +1,22 @@
-use Rattle.std.proofs.Common.{refl}
 use Rattle.board.specs.Held.{held}
 use Rattle.board.proofs.Flight.{settling_examples}
 use Rattle.board.proofs.Promised.{settling_promises, settling_computed, board_promises}
 use Rattle.board.proofs.Uniqueness.{unique}
 use Rattle.board.proofs.draft.Draft.settle.Goals as goal
 
-pub invariant_of-result : goal.invariant_of-result
-invariant_of-result g c =
+pub invariant_of-result-clause-settled : goal.invariant_of-result-clause-settled
+invariant_of-result-clause-settled g c =
     let t = c.args.self.tables in
-    let m = g.K.Kind.meaning in
     let laws = g.met.K.Kind.lawful in
-    record { book = c.settled_log-log.ensures.book; settled = unique laws t.sound c.settled_log-log.ensures.settled (settling_computed m (held t) laws t.sound).settled }
+    unique laws t.sound c.settled_log-log.ensures.settled (settling_computed g.K.Kind.meaning (held t) laws t.sound).settled
 
-pub returns : goal.returns
-returns g c =
+pub returns-clause-promises : goal.returns-clause-promises
+returns-clause-promises g c = board_promises
+
+pub returns-clause-example : goal.returns-clause-example
+returns-clause-example g c = settling_examples
+
+pub returns-clause-cheapest : goal.returns-clause-cheapest
+returns-clause-cheapest g c =
     let t = c.args.self.tables in
-    let m = g.K.Kind.meaning in
-    let laws = g.met.K.Kind.lawful in
-    let settled = c.settled_log-log.ensures.settled in
-    record {
-      content = refl;
-      records = settled;
-      computed = unique laws t.sound settled (settling_computed m (held t) laws t.sound).settled;
-      promises = board_promises;
-      example = settling_examples;
-      cheapest = (settling_promises m (held t) laws t.sound).1 _ settled;
-    }
+    (settling_promises g.K.Kind.meaning (held t) g.met.K.Kind.lawful t.sound).1 _ c.settled_log-log.ensures.settled

@@ -1,13 +1,10 @@
-use Rattle.std.proofs.Common.{length, sym, ap, ◌∙◌, subst}
+use Rattle.std.proofs.Common.{ap, ◌∙◌}
 use Rattle.board.specs.Boards.{reading_of}
-use Rattle.board.specs.Entries.{ReadingIn}
-use Rattle.board.specs.Held.{held}
-use Rattle.board.specs.Logs.{records}
 use Rattle.board.proofs.Scanning.{moments_none, moments_more, rows_none, rows_more, rows_all, reading_better, better_within}
 use Rattle.board.proofs.settled.Settled.recorded.Goals as goal
 
 pub loop-n-init : goal.loop-n-init
-loop-n-init g c = (rows_none g.K.Kind.meaning (held c.args.self.now.tables) (records c.args.self.now.log), tt)
+loop-n-init g c = (rows_none _ _ _, tt)
 
 pub loop-moment-init : goal.loop-moment-init
 loop-moment-init g c = (c.loop-n.invariant.0 ∙ moments_none _ _ _ _ _ _, c.loop-n.invariant.1)
@@ -15,16 +12,14 @@ loop-moment-init g c = (c.loop-n.invariant.0 ∙ moments_none _ _ _ _ _ _, c.loo
 pub loop-moment-preserved : goal.loop-moment-preserved
 loop-moment-preserved g c =
     let s = c.args.self.now in (
-      moments_more g.K.Kind.meaning (held s.tables) (records s.log) _ _ _ _ _ _ _ c.loop-moment.invariant.0 c.reading_at-next.ensures.which (ap (reading_of s.log) c.better-best.ensures ∙ reading_better g.K.Kind.meaning s.log c.loop-moment.best c.reading_at-next.result),
-      subst (ReadingIn s.log.count (length s.tables.rows.items)) (sym c.better-best.ensures) (better_within g.K.Kind.meaning _ _ c.loop-moment.best c.reading_at-next.result c.loop-moment.invariant.1 c.reading_at-next.ensures.within),
+      moments_more _ _ _ _ _ _ _ _ _ _ c.loop-moment.invariant.0 c.reading_at-next.ensures.which (ap (reading_of s.log) c.better-best.ensures ∙ reading_better g.K.Kind.meaning s.log c.loop-moment.best c.reading_at-next.result),
+      rw c.better-best.ensures (better_within g.K.Kind.meaning _ _ c.loop-moment.best c.reading_at-next.result c.loop-moment.invariant.1 c.reading_at-next.ensures.within),
     )
 
 pub loop-n-preserved : goal.loop-n-preserved
 loop-n-preserved g c =
-    let s = c.args.self.now in
-    (rows_more g.K.Kind.meaning (held s.tables) (records s.log) _ _ _ _ _ c.deref-row-items.ensures.0 c.loop-n-test.true c.loop-moment.auto.moment-end c.loop-moment-test.false c.loop-moment.invariant.0, c.loop-moment.invariant.1)
+    (rows_more _ _ _ _ _ _ _ _ c.deref-row-items.ensures.0 c.loop-n-test.true c.loop-moment.auto.moment-end c.loop-moment-test.false c.loop-moment.invariant.0, c.loop-moment.invariant.1)
 
-pub returns : goal.returns
-returns g c =
-    let s = c.args.self.now in
-    record { which = rows_all g.K.Kind.meaning (held s.tables) (records s.log) _ _ _ c.deref-row-items.ensures.0 c.loop-n.auto.n-end c.loop-n-test.false c.loop-n.invariant.0; within = c.loop-n.invariant.1 }
+pub returns-clause-which : goal.returns-clause-which
+returns-clause-which g c =
+    rows_all _ _ _ _ _ _ c.deref-row-items.ensures.0 c.loop-n.auto.n-end c.loop-n-test.false c.loop-n.invariant.0

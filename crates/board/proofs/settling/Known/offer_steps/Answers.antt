@@ -1,31 +1,15 @@
 use Rattle.board.specs.Held.{held}
 use Rattle.board.proofs.settling.Known.offer_steps.Goals as goal
-use Rattle.std.proofs.Common.{ℕ, length, arith}
-use Rattle.board.specs.Settling.{Record}
-use Rattle.board.specs.Logs.{RowSteps, LineStep}
-use Rattle.board.proofs.Growing.{grown_none, grown_more, grown_then, grown_for, upto_eq}
+use Rattle.std.proofs.Common.{length, arith}
+use Rattle.board.proofs.Growing.{grown_more, grown_then, grown_for, upto_eq}
 use Rattle.board.proofs.Stepping.{row_split, steps_in}
 
-pub loop-row-init : goal.loop-row-init
-loop-row-init g c = grown_none (RowSteps g.K.Kind.meaning (held c.args.self.now.tables.now) c.args.self.now.log.now c.args.i) c.requires.ok
-
-pub offer_step-requires : goal.offer_step-requires
-offer_step-requires g c = record { within = c.requires.within; ok = c.loop-row.invariant.ok }
-
-pub loop-line-init : goal.loop-line-init
-loop-line-init g c = grown_none (LineStep g.K.Kind.meaning (held c.args.self.now.tables.now) c.args.self.now.log.now c.args.i c.loop-row.row) c.offer_step.ensures.ok
-
-pub offer_step-requires-in-loop-line : goal.offer_step-requires-in-loop-line
-offer_step-requires-in-loop-line g c = record { within = c.requires.within; ok = c.loop-line.invariant.ok }
-
 pub loop-line-preserved : goal.loop-line-preserved
-loop-line-preserved g c = grown_more (LineStep g.K.Kind.meaning (held c.args.self.now.tables.now) c.args.self.now.log.now c.args.i c.loop-row.row) c.loop-line.line c.loop-line.invariant c.offer_step-in-loop-line.ensures
+loop-line-preserved g c = grown_more _ c.loop-line.line c.loop-line.invariant c.offer_step-in-loop-line.ensures
 
 pub loop-row-preserved : goal.loop-row-preserved
 loop-row-preserved g c =
-    let R : ℕ → Record → Type 0 = RowSteps g.K.Kind.meaning (held c.args.self.now.tables.now) c.args.self.now.log.now c.args.i in
-    let L : ℕ → Record → Type 0 = LineStep g.K.Kind.meaning (held c.args.self.now.tables.now) c.args.self.now.log.now c.args.i c.loop-row.row in
-    grown_more R c.loop-row.row c.loop-row.invariant (grown_then c.offer_step.ensures (upto_eq L _ (length c.args.self.now.tables.now.lines.items) (omega arith) (omega arith) c.loop-line.invariant) (row_split (held c.args.self.now.tables.now) c.args.self.now.log.now c.args.i c.loop-row.row))
+    grown_more _ c.loop-row.row c.loop-row.invariant (grown_then c.offer_step.ensures (upto_eq _ _ (length c.args.self.now.tables.now.lines.items) (omega arith) (omega arith) c.loop-line.invariant) (row_split (held c.args.self.now.tables.now) c.args.self.now.log.now c.args.i c.loop-row.row))
 
 pub returns : goal.returns
-returns g c = grown_for (upto_eq (RowSteps g.K.Kind.meaning (held c.args.self.now.tables.now) c.args.self.now.log.now c.args.i) _ (length c.args.self.now.tables.now.rows.items) (omega arith) (omega arith) c.loop-row.invariant) (steps_in (held c.args.self.now.tables.now) c.args.self.now.log.now c.args.i)
+returns g c = grown_for (upto_eq _ _ (length c.args.self.now.tables.now.rows.items) (omega arith) (omega arith) c.loop-row.invariant) (steps_in (held c.args.self.now.tables.now) c.args.self.now.log.now c.args.i)
