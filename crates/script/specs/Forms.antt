@@ -1,8 +1,10 @@
 -- The forms of calls: what the words after a call's name say.
-use Rattle.std.specs.Prelude.{ℕ, Bool, cond, ◌||◌, List, [], ◌∷◌, Some, None, Option, ◌==◌, slice_index}
-use Rattle.std.specs.Option.{option_map}
+use Rattle.std.specs.Prelude.{ℕ, List, [], ◌∷◌, Some, None, Option, slice_index}
+use Rattle.std.specs.Option.{option_map, option_and_then}
 use Rattle.words.specs.Numbers.{numbers_of}
 use Rattle.words.specs.Hex.{bytes_of}
+use Rattle.costs.specs.Names.{named_by}
+use Rattle.board.specs.Rows.{kind_of_number}
 use Rattle.script.specs.Calls.{Call, kind, size, row, line, reprice_row, reprice_line, load, path, between}
 
 -- the largest number of 32 bits
@@ -18,7 +20,7 @@ abbrev pub two_wide : List ℕ
 two_wide = widest ∷ widest ∷ []
 
 abbrev pub row_limits : List ℕ
-row_limits = 3 ∷ 255 ∷ 255 ∷ 255 ∷ 255 ∷ widest ∷ []
+row_limits = 255 ∷ 255 ∷ 255 ∷ 255 ∷ 255 ∷ widest ∷ []
 
 abbrev pub line_limits : List ℕ
 line_limits = 255 ∷ 255 ∷ 255 ∷ widest ∷ []
@@ -28,14 +30,10 @@ abbrev pub alone_call : Call → List (List ℕ) → Option Call
 alone_call c [] = Some c
 alone_call c (w ∷ ws) = None
 
--- the letters of kinds: P, S and R
-abbrev pub is_letter : ℕ → Bool
-is_letter l = l == 80 || (l == 83 || l == 82)
-
 -- kind LETTER
 abbrev pub kind_word : List ℕ → Option Call
 kind_word [] = None
-kind_word (l ∷ []) = cond (is_letter l) (Some (kind l)) None
+kind_word (l ∷ []) = option_map kind (named_by l)
 kind_word (l ∷ m ∷ ls) = None
 
 abbrev pub kind_call : List (List ℕ) → Option Call
@@ -48,19 +46,21 @@ abbrev pub size_call : List (List ℕ) → Option Call
 size_call ws = option_map (λ ns. size (slice_index ns 0) (slice_index ns 1)) (numbers_of two_wide ws)
 
 -- row KIND FROM TO LABEL ACTION COST
-abbrev pub row_from : List ℕ → Call
+abbrev pub row_from : List ℕ → Option Call
 row_from ns =
-    row record {
-      kind = slice_index ns 0;
+    option_map
+    (λ k. row record {
+      kind = k;
       from = slice_index ns 1;
       to = slice_index ns 2;
       label = slice_index ns 3;
       action = slice_index ns 4;
       cost = slice_index ns 5;
-    }
+    })
+    (kind_of_number (slice_index ns 0))
 
 abbrev pub row_call : List (List ℕ) → Option Call
-row_call ws = option_map row_from (numbers_of row_limits ws)
+row_call ws = option_and_then row_from (numbers_of row_limits ws)
 
 -- line FROM TO EVENT COST
 abbrev pub line_from : List ℕ → Call

@@ -7,9 +7,11 @@ ghost use Rattle.script.specs.Runs.{check_call};
 ghost use Rattle.script.specs.Script.{call_of};
 
 use crate::check::moves;
-use crate::command::{Command, LineWords, RowWords};
+use crate::command::Command;
 use crate::limits::{LONGEST, WIDEST};
 use crate::name::Name;
+use board::{Line, Row, RowKind};
+use costs::KindName;
 use std::alloc::{AllocError, Global};
 use words::{hex_byte_pairs, numbers};
 
@@ -31,10 +33,8 @@ fn kind_named(word: &[u8]) -> Option<Command>
     let [letter] = word else {
         return None;
     };
-    match *letter {
-        b'P' | b'S' | b'R' => Some(Command::Kind(char::from(*letter))),
-        _ => None,
-    }
+    let kind = KindName::try_from(char::from(*letter)).ok()?;
+    Some(Command::Kind(kind))
 }
 
 // kind LETTER
@@ -59,9 +59,9 @@ fn size(words: &[&[u8]]) -> Option<Command>
 fn add_row(words: &[&[u8]]) -> Option<Command>
     ensures { option_map command_of result ≡ row_call (map (λ x. x.now) words.now) }
 {
-    let [kind, from, to, label, action, cost] = numbers(words, [3, 255, 255, 255, 255, WIDEST])?;
-    Some(Command::AddRow(RowWords {
-        kind: kind as u8,
+    let [kind, from, to, label, action, cost] = numbers(words, [255, 255, 255, 255, 255, WIDEST])?;
+    Some(Command::AddRow(Row {
+        kind: RowKind::try_from(kind as u8).ok()?,
         from: from as u8,
         to: to as u8,
         label: label as u8,
@@ -75,7 +75,7 @@ fn add_line(words: &[&[u8]]) -> Option<Command>
     ensures { option_map command_of result ≡ line_call (map (λ x. x.now) words.now) }
 {
     let [from, to, event, cost] = numbers(words, [255, 255, 255, WIDEST])?;
-    Some(Command::AddLine(LineWords {
+    Some(Command::AddLine(Line {
         from: from as u8,
         to: to as u8,
         event: event as u8,

@@ -10,6 +10,6 @@ mod running;
 mod script;
 mod telling;
 
-pub use command::{Command, LineWords, RowWords};
+pub use command::Command;
 pub use running::run;
 pub use script::{Parsed, parse, script_part};
