@@ -1,14 +1,15 @@
 -- Runs added one after another.
-use Rattle.std.proofs.Common.{◌≡◌, ℕ, ◌+◌, ◌<◌, ◌≤◌, List, [], ◌∷◌, ◌++◌, length, get_or, drop, replicate, Some, None, Option, sym, refl, ap, ◌∙◌, arith}
-use Rattle.std.proofs.lemmas.List.{append_assoc, append-nil, length-append, drop_more, drop_all, replicate_more}
+use Rattle.std.proofs.Common.{◌≡◌, ℕ, ◌+◌, ◌-◌, ◌<◌, ◌≤◌, List, [], ◌++◌, length, get_or, take, drop, replicate, Some, None, Option, sym, refl, ap, ◌∙◌, arith}
+use Rattle.std.proofs.lemmas.List.{append_assoc, append-nil, length-append, drop_more, drop_all, take_all}
 use Rattle.std.proofs.lemmas.Bool.{cond-true, cond-false, le-leb, lt-leb}
 use Rattle.script.specs.Forms.{longest}
 use Rattle.script.specs.Runs.{run_of, run_moves, run_before, runs_of, not_too_long}
 use Rattle.script.specs.declared.check.Run.{Run}
 
--- one number more
-pub one_more : (xs : List ℕ) (i n : ℕ) → (xs ++ replicate i n) ++ (n ∷ []) ≡ xs ++ replicate (i + 1) n
-one_more xs i n = append_assoc xs (replicate i n) (n ∷ []) ∙ ap (λ l. xs ++ l) (replicate_more i n)
+-- a list filled up to a greater length
+pub filled : (xs : List ℕ) (n m k x : ℕ) → n ≡ length xs + k → m ≡ length xs → take n xs ++ replicate (n - m) x ≡ xs ++ replicate k x
+filled xs n m k x longer whole =
+    ap (λ l. l ++ replicate (n - m) x) (take_all n xs (omega (arith, longer))) ∙ ap (λ i. xs ++ replicate i x) (omega (arith, longer, whole))
 
 -- numbers that were added, before what follows them
 abbrev pub after : List ℕ → Option (List ℕ) → Option (List ℕ)

@@ -41,9 +41,13 @@ kind_call [] = None
 kind_call (w ∷ []) = kind_word w
 kind_call (w ∷ v ∷ ws) = None
 
+-- a call with two numbers of 32 bits
+abbrev pub two_call : (ℕ → ℕ → Call) → List (List ℕ) → Option Call
+two_call make ws = option_map (λ ns. make (slice_index ns 0) (slice_index ns 1)) (numbers_of two_wide ws)
+
 -- size MODES MOMENTS
 abbrev pub size_call : List (List ℕ) → Option Call
-size_call ws = option_map (λ ns. size (slice_index ns 0) (slice_index ns 1)) (numbers_of two_wide ws)
+size_call ws = two_call size ws
 
 -- row KIND FROM TO LABEL ACTION COST
 abbrev pub row_from : List ℕ → Option Call
@@ -71,10 +75,10 @@ line_call ws = option_map line_from (numbers_of line_limits ws)
 
 -- reprice-row I COST, and reprice-line I COST
 abbrev pub reprice_row_call : List (List ℕ) → Option Call
-reprice_row_call ws = option_map (λ ns. reprice_row (slice_index ns 0) (slice_index ns 1)) (numbers_of two_wide ws)
+reprice_row_call ws = two_call reprice_row ws
 
 abbrev pub reprice_line_call : List (List ℕ) → Option Call
-reprice_line_call ws = option_map (λ ns. reprice_line (slice_index ns 0) (slice_index ns 1)) (numbers_of two_wide ws)
+reprice_line_call ws = two_call reprice_line ws
 
 -- load HEX; no word is an empty file
 abbrev pub file_word : List (List ℕ) → Option (List ℕ)
@@ -95,4 +99,4 @@ path_call ws = option_map (λ ns. path (slice_index ns 0)) (numbers_of (longest 
 
 -- between S Q
 abbrev pub between_call : List (List ℕ) → Option Call
-between_call ws = option_map (λ ns. between (slice_index ns 0) (slice_index ns 1)) (numbers_of two_wide ws)
+between_call ws = two_call between ws

@@ -1,6 +1,7 @@
 // Running a script, line by line.
 use crate::command::Command;
-use crate::script::{Parsed, parse, script_part};
+use crate::error::ParseError;
+use crate::script::{parse, script_part};
 use crate::telling::push_answer;
 use board::Draft;
 use costs::{Kind, KindName, Points, Rank, Severity};
@@ -27,13 +28,11 @@ fn begun(kind: KindName) -> Session {
 
 // The buffer beside the command: for path one of the length that it names, filled with aaaa.
 fn buffer_of(heap: Global, command: &Command) -> Result<Vec<u16>, AllocError> {
-    let mut buffer = Vec::new(heap);
-    if let Command::Path(length) = command {
-        for _i in 0..*length {
-            buffer.push(0xaaaa)?;
-        }
-    }
-    Ok(buffer)
+    let length = match command {
+        Command::Path(length) => *length,
+        _ => 0,
+    };
+    Ok(vec![in heap; 0xaaaa; length]?)
 }
 
 // One call on a board: adds its answer, and gives the board after it.
@@ -81,13 +80,14 @@ pub fn run(heap: Global, input: &[u8]) -> Result<Vec<u8>, AllocError> {
     let mut out = Vec::new(heap);
     let mut session = None;
     for line in lines.as_slice() {
-        match parse(heap, line)? {
-            Parsed::Skip => continue,
-            Parsed::Unreadable => {
+        match parse(heap, line) {
+            Ok(None) => continue,
+            Err(ParseError::OutOfMemory) => return Err(AllocError),
+            Err(ParseError::Unreadable) => {
                 out.extend_from_slice(script_part(line))?;
                 out.extend_from_slice(b" -> unreadable")?;
             }
-            Parsed::Command(command) => {
+            Ok(Some(command)) => {
                 out.extend_from_slice(script_part(line))?;
                 session = obeyed(heap, &mut out, session, &command)?;
             }
