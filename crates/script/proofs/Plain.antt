@@ -9,7 +9,9 @@ use Rattle.words.specs.Numbers.{is_digit, all_digits}
 use Rattle.words.specs.Pieces.{spacing, pieces_of, NoSeparator}
 use Rattle.words.proofs.Cutting.{cuts_apart}
 use Rattle.words.proofs.Digits.{decimal_digits}
-use Rattle.script.specs.Forms.{is_letter}
+use Rattle.costs.specs.Names.{letter_of}
+use Rattle.costs.specs.declared.kind_name.KindName.{KindName}
+use Rattle.costs.specs.declared.kind_name.KindName.TheVariants.{Points, Severity, Rank}
 use Rattle.script.specs.Written.{spaced}
 
 -- the bytes '>' and '*', and all that no written word has
@@ -94,8 +96,13 @@ pub plain_u16 : (n : ℕ) → n < 2 ^ 16 → Plain (written_u16 n)
 plain_u16 n small = (omega arith, uncut_append reserved (written_byte (n / 256)) (written_byte (n % 256)) (free_byte (n / 256) (omega arith)) (free_byte (n % 256) (omega arith)))
 
 -- a kind's letter
-pub plain_letter : (l : ℕ) → is_letter l ≡ true → Plain (l ∷ [])
-plain_letter l letter = let free : reserved l ≡ false = grind (arith, nat_tests) in (omega arith, (free, tt))
+free_letter : (k : KindName) → reserved (letter_of k) ≡ false
+free_letter Points = refl
+free_letter Severity = refl
+free_letter Rank = refl
+
+pub plain_letter : (k : KindName) → Plain (letter_of k ∷ [])
+plain_letter k = (omega arith, (free_letter k, tt))
 
 -- a line of plain words
 one_piece : (w : List ℕ) → Plain w → pieces_of spacing w ≡ w ∷ []

@@ -1,15 +1,22 @@
 -- Written calls read back.
 use Rattle.std.proofs.Common.{◌≡◌, ℕ, ◌^◌, ◌<◌, ◌≤◌, true, List, [], ◌∷◌, map, length, get_or, Some, decimal, refl, ap, ◌∙◌, arith}
-use Rattle.std.specs.Option.{option_map}
+use Rattle.std.specs.Option.{option_map, option_and_then}
 use Rattle.std.specs.List.{AllByRecursion}
 use Rattle.std.proofs.lemmas.Bool.{cond-true, le-leb}
+use Rattle.costs.specs.Names.{letter_of}
+use Rattle.costs.specs.declared.kind_name.KindName.{KindName}
+use Rattle.costs.specs.declared.kind_name.KindName.TheVariants.{Points, Severity, Rank}
+use Rattle.board.specs.Rows.{kind_number, kind_of_number}
+use Rattle.board.specs.declared.row.Row.{Row}
+use Rattle.board.specs.declared.row.RowKind.{RowKind}
+use Rattle.board.specs.declared.row.RowKind.TheVariants as row_kind
 use Rattle.words.specs.Hex.{written_u16}
 use Rattle.words.specs.Numbers.{number_before, numbers_of}
 use Rattle.words.specs.Pieces.{spacing, pieces_of, NoSeparator}
 use Rattle.words.proofs.Digits.{reads_back}
 use Rattle.words.proofs.HexDigits.{bytes_read_back, number_reads_back}
 use Rattle.script.specs.Calls.{Call, kind, size, row, line, reprice_row, reprice_line, clear, load, settle, reopen, cost, path, between, check}
-use Rattle.script.specs.Forms.{longest, two_wide, row_limits, line_limits, row_from, line_from, load_call}
+use Rattle.script.specs.Forms.{longest, two_wide, row_limits, line_limits, kind_word, two_call, row_from, line_from, load_call}
 use Rattle.script.specs.Names.{spells}
 use Rattle.script.specs.Runs.{run_of, run_from, split_run, run_before, runs_of, not_too_long, check_call}
 use Rattle.script.specs.Script.{call, call_parsed, words_parsed}
@@ -62,7 +69,7 @@ longest_fits = (omega arith, tt)
 
 -- the words of a call are plain
 plain_names : (c : Call) → is_plain (name_word c) ≡ true
-plain_names (kind l) = refl
+plain_names (kind k) = refl
 plain_names (size m t) = refl
 plain_names (row r) = refl
 plain_names (line l) = refl
@@ -85,7 +92,7 @@ plain_file [] small = tt
 plain_file (b ∷ bs) small = (plain_bytes b bs small, tt)
 
 plain_words : (c : Call) → Fits c → AllByRecursion Plain (words_after c)
-plain_words (kind l) fits = (plain_letter l fits, tt)
+plain_words (kind k) fits = (plain_letter k, tt)
 plain_words (size m t) fits = plain_decimals two_wide (m ∷ t ∷ []) two_wide_fit fits
 plain_words (row r) fits = plain_decimals row_limits (row_numbers r) row_limits_fit fits
 plain_words (line l) fits = plain_decimals line_limits (line_numbers l) line_limits_fit fits
@@ -101,6 +108,23 @@ plain_words (between s q) fits = plain_decimals two_wide (s ∷ q ∷ []) two_wi
 plain_words (check ms) fits = plain_moves ms fits.0
 
 -- they say the call
+says_kind : (k : KindName) → kind_word (letter_of k ∷ []) ≡ Some (kind k)
+says_kind Points = refl
+says_kind Severity = refl
+says_kind Rank = refl
+
+kind_back : (k : RowKind) → kind_of_number (kind_number k) ≡ Some k
+kind_back row_kind.Plain = refl
+kind_back row_kind.Open = refl
+kind_back row_kind.Close = refl
+kind_back row_kind.End = refl
+
+abbrev with_kind : Row → RowKind → Call
+with_kind r k = row record { kind = k; from = r.from; to = r.to; label = r.label; action = r.action; cost = r.cost }
+
+says_two : (make : ℕ → ℕ → Call) (a b : ℕ) → UpTo two_wide (a ∷ b ∷ []) → two_call make (map decimal (a ∷ b ∷ [])) ≡ Some (make a b)
+says_two make a b fits = ap (option_map (λ ns. make (get_or ns 0 0) (get_or ns 1 0))) (numbers_back two_wide (a ∷ b ∷ []) two_wide_fit fits)
+
 says_file : (bs : List ℕ) → AllByRecursion (λ b. b < 2 ^ 8) bs → load_call (file_words bs) ≡ Some (load bs)
 says_file [] small = refl
 says_file (b ∷ bs) small = ap (option_map load) (bytes_read_back (b ∷ bs) small)
@@ -111,19 +135,19 @@ says_moves ms small short =
 
 says : (c : Call) → Fits c → words_parsed (name_word c ∷ words_after c) ≡ call c
 unfolding spells
-says (kind l) fits = ap call_parsed (cond-true _ _ _ fits)
-says (size m t) fits = ap (λ o. call_parsed (option_map (λ ns. size (get_or ns 0 0) (get_or ns 1 0)) o)) (numbers_back two_wide (m ∷ t ∷ []) two_wide_fit fits)
-says (row r) fits = ap (λ o. call_parsed (option_map row_from o)) (numbers_back row_limits (row_numbers r) row_limits_fit fits)
+says (kind k) fits = ap call_parsed (says_kind k)
+says (size m t) fits = ap call_parsed (says_two size m t fits)
+says (row r) fits = ap (λ o. call_parsed (option_and_then row_from o)) (numbers_back row_limits (row_numbers r) row_limits_fit fits) ∙ ap (λ o. call_parsed (option_map (with_kind r) o)) (kind_back r.kind)
 says (line l) fits = ap (λ o. call_parsed (option_map line_from o)) (numbers_back line_limits (line_numbers l) line_limits_fit fits)
-says (reprice_row i c) fits = ap (λ o. call_parsed (option_map (λ ns. reprice_row (get_or ns 0 0) (get_or ns 1 0)) o)) (numbers_back two_wide (i ∷ c ∷ []) two_wide_fit fits)
-says (reprice_line i c) fits = ap (λ o. call_parsed (option_map (λ ns. reprice_line (get_or ns 0 0) (get_or ns 1 0)) o)) (numbers_back two_wide (i ∷ c ∷ []) two_wide_fit fits)
+says (reprice_row i c) fits = ap call_parsed (says_two reprice_row i c fits)
+says (reprice_line i c) fits = ap call_parsed (says_two reprice_line i c fits)
 says clear fits = refl
 says (load bs) fits = ap call_parsed (says_file bs fits)
 says settle fits = refl
 says reopen fits = refl
 says cost fits = refl
 says (path n) fits = ap (λ o. call_parsed (option_map (λ ns. path (get_or ns 0 0)) o)) (numbers_back (longest ∷ []) (n ∷ []) longest_fits (fits, tt))
-says (between s q) fits = ap (λ o. call_parsed (option_map (λ ns. between (get_or ns 0 0) (get_or ns 1 0)) o)) (numbers_back two_wide (s ∷ q ∷ []) two_wide_fit fits)
+says (between s q) fits = ap call_parsed (says_two between s q fits)
 says (check ms) fits = ap call_parsed (says_moves ms fits.0 fits.1)
 
 unpointed : (c : Call) → Fits c → NoSeparator point (written c)

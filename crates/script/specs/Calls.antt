@@ -1,18 +1,19 @@
 -- The calls that a script makes.
 use Rattle.std.specs.Prelude.{ℕ, List, vec_items}
-use Rattle.script.specs.declared.command.RowWords.{RowWords}
-use Rattle.script.specs.declared.command.LineWords.{LineWords}
+use Rattle.costs.specs.declared.kind_name.KindName.{KindName}
+use Rattle.board.specs.declared.row.Row.{Row}
+use Rattle.board.specs.declared.row.Line.{Line}
 use Rattle.script.specs.declared.command.Command.{Command}
 use Rattle.script.specs.declared.command.Command.TheVariants.{Kind, Size, AddRow, AddLine, RepriceRow, RepriceLine, ClearLines, Load, Settle, Reopen, Cost, Path, Between, Check}
 
 -- A call, with lists in place of the code's vectors.
 pub data Call : Type 0 where
-  -- a new board of the kind with this letter
-  kind : ℕ → Call
+  -- a new board of this kind
+  kind : KindName → Call
   -- how many modes and moments
   size : ℕ → ℕ → Call
-  row : RowWords → Call
-  line : LineWords → Call
+  row : Row → Call
+  line : Line → Call
   -- the row's or the line's number, and its cost
   reprice_row : ℕ → ℕ → Call
   reprice_line : ℕ → ℕ → Call
@@ -31,7 +32,7 @@ pub data Call : Type 0 where
 
 -- the call that a command is
 abbrev pub command_of : Command → Call
-command_of (Kind l) = kind l
+command_of (Kind k) = kind k
 command_of (Size m t) = size m t
 command_of (AddRow r) = row r
 command_of (AddLine l) = line l

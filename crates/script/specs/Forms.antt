@@ -1,8 +1,10 @@
 -- The forms of calls: what the words after a call's name say.
-use Rattle.std.specs.Prelude.{ℕ, Bool, cond, ◌||◌, List, [], ◌∷◌, Some, None, Option, ◌==◌, slice_index}
-use Rattle.std.specs.Option.{option_map}
+use Rattle.std.specs.Prelude.{ℕ, List, [], ◌∷◌, Some, None, Option, slice_index}
+use Rattle.std.specs.Option.{option_map, option_and_then}
 use Rattle.words.specs.Numbers.{numbers_of}
 use Rattle.words.specs.Hex.{bytes_of}
+use Rattle.costs.specs.Names.{named_by}
+use Rattle.board.specs.Rows.{kind_of_number}
 use Rattle.script.specs.Calls.{Call, kind, size, row, line, reprice_row, reprice_line, load, path, between}
 
 -- the largest number of 32 bits
@@ -18,7 +20,7 @@ abbrev pub two_wide : List ℕ
 two_wide = widest ∷ widest ∷ []
 
 abbrev pub row_limits : List ℕ
-row_limits = 3 ∷ 255 ∷ 255 ∷ 255 ∷ 255 ∷ widest ∷ []
+row_limits = 255 ∷ 255 ∷ 255 ∷ 255 ∷ 255 ∷ widest ∷ []
 
 abbrev pub line_limits : List ℕ
 line_limits = 255 ∷ 255 ∷ 255 ∷ widest ∷ []
@@ -28,14 +30,10 @@ abbrev pub alone_call : Call → List (List ℕ) → Option Call
 alone_call c [] = Some c
 alone_call c (w ∷ ws) = None
 
--- the letters of kinds: P, S and R
-abbrev pub is_letter : ℕ → Bool
-is_letter l = l == 80 || (l == 83 || l == 82)
-
 -- kind LETTER
 abbrev pub kind_word : List ℕ → Option Call
 kind_word [] = None
-kind_word (l ∷ []) = cond (is_letter l) (Some (kind l)) None
+kind_word (l ∷ []) = option_map kind (named_by l)
 kind_word (l ∷ m ∷ ls) = None
 
 abbrev pub kind_call : List (List ℕ) → Option Call
@@ -43,24 +41,30 @@ kind_call [] = None
 kind_call (w ∷ []) = kind_word w
 kind_call (w ∷ v ∷ ws) = None
 
+-- a call with two numbers of 32 bits
+abbrev pub two_call : (ℕ → ℕ → Call) → List (List ℕ) → Option Call
+two_call make ws = option_map (λ ns. make (slice_index ns 0) (slice_index ns 1)) (numbers_of two_wide ws)
+
 -- size MODES MOMENTS
 abbrev pub size_call : List (List ℕ) → Option Call
-size_call ws = option_map (λ ns. size (slice_index ns 0) (slice_index ns 1)) (numbers_of two_wide ws)
+size_call ws = two_call size ws
 
 -- row KIND FROM TO LABEL ACTION COST
-abbrev pub row_from : List ℕ → Call
+abbrev pub row_from : List ℕ → Option Call
 row_from ns =
-    row record {
-      kind = slice_index ns 0;
+    option_map
+    (λ k. row record {
+      kind = k;
       from = slice_index ns 1;
       to = slice_index ns 2;
       label = slice_index ns 3;
       action = slice_index ns 4;
       cost = slice_index ns 5;
-    }
+    })
+    (kind_of_number (slice_index ns 0))
 
 abbrev pub row_call : List (List ℕ) → Option Call
-row_call ws = option_map row_from (numbers_of row_limits ws)
+row_call ws = option_and_then row_from (numbers_of row_limits ws)
 
 -- line FROM TO EVENT COST
 abbrev pub line_from : List ℕ → Call
@@ -71,10 +75,10 @@ line_call ws = option_map line_from (numbers_of line_limits ws)
 
 -- reprice-row I COST, and reprice-line I COST
 abbrev pub reprice_row_call : List (List ℕ) → Option Call
-reprice_row_call ws = option_map (λ ns. reprice_row (slice_index ns 0) (slice_index ns 1)) (numbers_of two_wide ws)
+reprice_row_call ws = two_call reprice_row ws
 
 abbrev pub reprice_line_call : List (List ℕ) → Option Call
-reprice_line_call ws = option_map (λ ns. reprice_line (slice_index ns 0) (slice_index ns 1)) (numbers_of two_wide ws)
+reprice_line_call ws = two_call reprice_line ws
 
 -- load HEX; no word is an empty file
 abbrev pub file_word : List (List ℕ) → Option (List ℕ)
@@ -95,4 +99,4 @@ path_call ws = option_map (λ ns. path (slice_index ns 0)) (numbers_of (longest 
 
 -- between S Q
 abbrev pub between_call : List (List ℕ) → Option Call
-between_call ws = option_map (λ ns. between (slice_index ns 0) (slice_index ns 1)) (numbers_of two_wide ws)
+between_call ws = two_call between ws

@@ -1,4 +1,5 @@
 pub mod Calls
+pub mod Errors
 pub mod Names
 pub mod Forms
 pub mod Runs

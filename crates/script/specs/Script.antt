@@ -1,5 +1,5 @@
 -- What a line of a script says.
-use Rattle.std.specs.Prelude.{ℕ, Bool, cond, List, [], ◌∷◌, Some, None, codes, Option, ◌==◌, slice_index}
+use Rattle.std.specs.Prelude.{ℕ, Bool, cond, List, [], ◌∷◌, Some, None, Ok, Err, codes, Option, Result, ◌==◌, slice_index}
 use Rattle.words.specs.Pieces.{spacing, pieces_of}
 use Rattle.words.specs.Splits.{split_of}
 use Rattle.words.specs.Trims.{trimmed_of}
@@ -9,8 +9,9 @@ use Rattle.script.specs.Forms.{alone_call, kind_call, size_call, row_call, line_
 use Rattle.script.specs.Runs.{check_call}
 use Rattle.script.specs.declared.name.Name.{Name}
 use Rattle.script.specs.declared.name.Name.TheVariants.{Kind, Size, Row, Line, RepriceRow, RepriceLine, Clear, Load, Settle, Reopen, Cost, Path, Between, Check}
-use Rattle.script.specs.declared.script.Parsed.{Parsed}
-use Rattle.script.specs.declared.script.Parsed.TheVariants as code
+use Rattle.script.specs.declared.command.Command.{Command}
+use Rattle.script.specs.declared.error.ParseError.{ParseError}
+use Rattle.script.specs.declared.error.ParseError.TheVariants.{Unreadable, OutOfMemory}
 
 -- What a line says.
 pub data LineParsed : Type 0 where
@@ -67,8 +68,9 @@ words_parsed (w ∷ ws) = cond (is_comment w) skip (name_parsed (name_of w) ws)
 abbrev pub line_parsed : List ℕ → LineParsed
 line_parsed line = words_parsed (pieces_of spacing (script_part_of line))
 
--- what the code's answer stands for
-abbrev pub parsed_of : Parsed → LineParsed
-parsed_of code.Skip = skip
-parsed_of code.Unreadable = unreadable
-parsed_of (code.Command c) = call (command_of c)
+-- what the code's answer stands for; nothing where memory did not suffice
+abbrev pub parsed_of : Result (Option Command) ParseError → Option LineParsed
+parsed_of (Ok None) = Some skip
+parsed_of (Ok (Some c)) = Some (call (command_of c))
+parsed_of (Err Unreadable) = Some unreadable
+parsed_of (Err OutOfMemory) = None

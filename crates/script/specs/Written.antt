@@ -1,12 +1,14 @@
 -- Calls as lines: how each is written, and that it reads back.
-use Rattle.std.specs.Prelude.{◌≡◌, ℕ, ◌^◌, ◌<◌, ◌≤◌, true, List, [], ◌∷◌, ◌++◌, map, length, codes, decimal}
+use Rattle.std.specs.Prelude.{◌≡◌, ℕ, ◌^◌, ◌<◌, ◌≤◌, List, [], ◌∷◌, ◌++◌, map, length, codes, decimal}
 use Rattle.std.specs.List.{flat_map, AllByRecursion}
+use Rattle.costs.specs.Names.{letter_of}
+use Rattle.board.specs.declared.row.Row.{Row}
+use Rattle.board.specs.declared.row.Line.{Line}
+use Rattle.board.specs.Rows.{kind_number}
 use Rattle.words.specs.Hex.{written_byte, written_u16}
 use Rattle.script.specs.Calls.{Call, kind, size, row, line, reprice_row, reprice_line, clear, load, settle, reopen, cost, path, between, check}
-use Rattle.script.specs.Forms.{longest, is_letter, two_wide, row_limits, line_limits}
+use Rattle.script.specs.Forms.{longest, two_wide, row_limits, line_limits}
 use Rattle.script.specs.Script.{call, line_parsed}
-use Rattle.script.specs.declared.command.RowWords.{RowWords}
-use Rattle.script.specs.declared.command.LineWords.{LineWords}
 
 -- words, a space before each
 abbrev pub spaced : List (List ℕ) → List ℕ
@@ -19,15 +21,15 @@ file_words [] = []
 file_words (b ∷ bs) = flat_map written_byte (b ∷ bs) ∷ []
 
 -- the numbers of a row and of a line, in their order
-abbrev pub row_numbers : RowWords → List ℕ
-row_numbers r = r.kind ∷ r.from ∷ r.to ∷ r.label ∷ r.action ∷ r.cost ∷ []
+abbrev pub row_numbers : Row → List ℕ
+row_numbers r = kind_number r.kind ∷ r.from ∷ r.to ∷ r.label ∷ r.action ∷ r.cost ∷ []
 
-abbrev pub line_numbers : LineWords → List ℕ
+abbrev pub line_numbers : Line → List ℕ
 line_numbers l = l.from ∷ l.to ∷ l.event ∷ l.cost ∷ []
 
 -- the name of a call
 abbrev pub name_word : Call → List ℕ
-name_word (kind l) = codes "kind"
+name_word (kind k) = codes "kind"
 name_word (size m t) = codes "size"
 name_word (row r) = codes "row"
 name_word (line l) = codes "line"
@@ -44,7 +46,7 @@ name_word (check ms) = codes "check"
 
 -- the words after the name
 abbrev pub words_after : Call → List (List ℕ)
-words_after (kind l) = (l ∷ []) ∷ []
+words_after (kind k) = (letter_of k ∷ []) ∷ []
 words_after (size m t) = map decimal (m ∷ t ∷ [])
 words_after (row r) = map decimal (row_numbers r)
 words_after (line l) = map decimal (line_numbers l)
@@ -72,7 +74,7 @@ UpTo (limit ∷ limits) (n ∷ ns) = (n ≤ limit) × UpTo limits ns
 
 -- the numbers of a call are within their limits
 abbrev pub Fits : Call → Type 0
-Fits (kind l) = is_letter l ≡ true
+Fits (kind k) = Unit {0}
 Fits (size m t) = UpTo two_wide (m ∷ t ∷ [])
 Fits (row r) = UpTo row_limits (row_numbers r)
 Fits (line l) = UpTo line_limits (line_numbers l)

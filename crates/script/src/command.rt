@@ -1,34 +1,17 @@
 // The calls that a script makes.
-
-// A row as a script writes it; its kind is 0 plain, 1 open, 2 close or 3 end.
-#[derive(Clone, Copy)]
-pub struct RowWords {
-    pub kind: u8,
-    pub from: u8,
-    pub to: u8,
-    pub label: u8,
-    pub action: u8,
-    pub cost: u32,
-}
-
-// A line of a report as a script writes it.
-#[derive(Clone, Copy)]
-pub struct LineWords {
-    pub from: u8,
-    pub to: u8,
-    pub event: u8,
-    pub cost: u32,
-}
+use board::{Line, Row};
+use costs::KindName;
+use file::Call;
 
 // One call.
 #[derive(Drop)]
 pub enum Command {
-    // a new board of the kind with this letter
-    Kind(char),
+    // a new board of this kind
+    Kind(KindName),
     // how many modes and moments
     Size(u32, u32),
-    AddRow(RowWords),
-    AddLine(LineWords),
+    AddRow(Row),
+    AddLine(Line),
     // the row's or the line's number, and its cost
     RepriceRow(usize, u32),
     RepriceLine(usize, u32),
@@ -44,4 +27,27 @@ pub enum Command {
     Between(usize, usize),
     // a list of packed moves
     Check(Vec<u16>),
+}
+
+impl Command {
+    // The call that it makes on a board; naming a kind makes none.
+    pub(crate) fn call(&self) -> Option<Call<'_>> {
+        let call = match self {
+            Command::Kind(_) => return None,
+            Command::Size(modes, moments) => Call::Size(*modes, *moments),
+            Command::AddRow(row) => Call::AddRow(*row),
+            Command::AddLine(line) => Call::AddLine(*line),
+            Command::RepriceRow(n, cost) => Call::RepriceRow(*n, *cost),
+            Command::RepriceLine(n, cost) => Call::RepriceLine(*n, *cost),
+            Command::ClearLines => Call::ClearLines,
+            Command::Load(bytes) => Call::Load(bytes.as_slice()),
+            Command::Settle => Call::Settle,
+            Command::Reopen => Call::Reopen,
+            Command::Cost => Call::Cost,
+            Command::Path(_) => Call::Path,
+            Command::Between(from, to) => Call::Between(*from, *to),
+            Command::Check(moves) => Call::Check(moves.as_slice()),
+        };
+        Some(call)
+    }
 }

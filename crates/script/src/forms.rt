@@ -1,67 +1,56 @@
 // The forms of calls: each function reads the words after a call's name.
-ghost use Rattle.std.specs.Prelude.{◌≡◌, map, IfOk};
+ghost use Rattle.std.specs.Prelude.{◌≡◌, map, IfSome, slice_index};
 ghost use Rattle.std.specs.Option.{option_map};
+ghost use Rattle.words.specs.Numbers.{numbers_of};
 ghost use Rattle.script.specs.Calls.{command_of};
-ghost use Rattle.script.specs.Forms.{alone_call, kind_word, kind_call, size_call, row_call, line_call, reprice_row_call, reprice_line_call, file_word, load_call, path_call, between_call};
+ghost use Rattle.script.specs.Errors.{read_of};
+ghost use Rattle.script.specs.Forms.{two_wide, alone_call, kind_call, row_call, line_call, file_word, load_call, path_call};
 ghost use Rattle.script.specs.Runs.{check_call};
 ghost use Rattle.script.specs.Script.{call_of};
 
 use crate::check::moves;
-use crate::command::{Command, LineWords, RowWords};
-use crate::limits::{LONGEST, WIDEST};
+use crate::command::Command;
+use crate::error::ParseError;
+use crate::limits::{BYTE, LONGEST, WIDEST};
 use crate::name::Name;
-use std::alloc::{AllocError, Global};
+use board::{Line, Row, RowKind};
+use costs::KindName;
+use std::alloc::Global;
 use words::{hex_byte_pairs, numbers};
 
 // The call, where no words follow its name.
 fn alone(command: Command, words: &[&[u8]]) -> Option<Command>
     ensures { option_map command_of result ≡ alone_call (command_of command) (map (λ x. x.now) words.now) }
 {
-    if words.is_empty() {
-        Some(command)
-    } else {
-        None
-    }
-}
-
-// The kind whose letter the word is.
-fn kind_named(word: &[u8]) -> Option<Command>
-    ensures { option_map command_of result ≡ kind_word word.now }
-{
-    let [letter] = word else {
-        return None;
-    };
-    match *letter {
-        b'P' | b'S' | b'R' => Some(Command::Kind(char::from(*letter))),
-        _ => None,
-    }
+    words.is_empty().then_some(command)
 }
 
 // kind LETTER
 fn kind(words: &[&[u8]]) -> Option<Command>
     ensures { option_map command_of result ≡ kind_call (map (λ x. x.now) words.now) }
 {
-    let [word] = words else {
+    let [[letter]] = words else {
         return None;
     };
-    kind_named(word)
+    let kind = KindName::try_from(char::from(*letter)).ok()?;
+    Some(Command::Kind(kind))
 }
 
-// size MODES MOMENTS
-fn size(words: &[&[u8]]) -> Option<Command>
-    ensures { option_map command_of result ≡ size_call (map (λ x. x.now) words.now) }
+// Two numbers of 32 bits.
+fn two(words: &[&[u8]]) -> Option<(u32, u32)>
+    ensures { result ≡ option_map (λ ns. (slice_index ns 0, slice_index ns 1)) (numbers_of two_wide (map (λ x. x.now) words.now)) }
 {
-    let [modes, moments] = numbers(words, [WIDEST, WIDEST])?;
-    Some(Command::Size(modes as u32, moments as u32))
+    let [first, second] = numbers(words, [WIDEST, WIDEST])?;
+    Some((first as u32, second as u32))
 }
 
 // row KIND FROM TO LABEL ACTION COST
 fn add_row(words: &[&[u8]]) -> Option<Command>
     ensures { option_map command_of result ≡ row_call (map (λ x. x.now) words.now) }
 {
-    let [kind, from, to, label, action, cost] = numbers(words, [3, 255, 255, 255, 255, WIDEST])?;
-    Some(Command::AddRow(RowWords {
-        kind: kind as u8,
+    let [kind, from, to, label, action, cost] = numbers(words, [BYTE, BYTE, BYTE, BYTE, BYTE, WIDEST])?;
+    Some(Command::AddRow(Row {
+        kind: RowKind::try_from(kind as u8).ok()?,
         from: from as u8,
         to: to as u8,
         label: label as u8,
@@ -74,29 +63,13 @@ fn add_row(words: &[&[u8]]) -> Option<Command>
 fn add_line(words: &[&[u8]]) -> Option<Command>
     ensures { option_map command_of result ≡ line_call (map (λ x. x.now) words.now) }
 {
-    let [from, to, event, cost] = numbers(words, [255, 255, 255, WIDEST])?;
-    Some(Command::AddLine(LineWords {
+    let [from, to, event, cost] = numbers(words, [BYTE, BYTE, BYTE, WIDEST])?;
+    Some(Command::AddLine(Line {
         from: from as u8,
         to: to as u8,
         event: event as u8,
         cost: cost as u32,
     }))
-}
-
-// reprice-row I COST
-fn reprice_row(words: &[&[u8]]) -> Option<Command>
-    ensures { option_map command_of result ≡ reprice_row_call (map (λ x. x.now) words.now) }
-{
-    let [row, cost] = numbers(words, [WIDEST, WIDEST])?;
-    Some(Command::RepriceRow(row as usize, cost as u32))
-}
-
-// reprice-line I COST
-fn reprice_line(words: &[&[u8]]) -> Option<Command>
-    ensures { option_map command_of result ≡ reprice_line_call (map (λ x. x.now) words.now) }
-{
-    let [line, cost] = numbers(words, [WIDEST, WIDEST])?;
-    Some(Command::RepriceLine(line as usize, cost as u32))
 }
 
 // The word of a file's bytes: none is an empty file.
@@ -111,16 +84,12 @@ fn file_word<'a>(words: &[&'a [u8]]) -> Option<&'a [u8]>
 }
 
 // load HEX
-fn load(heap: Global, words: &[&[u8]]) -> Result<Option<Command>, AllocError>
-    ensures { IfOk result (λ o. option_map command_of o ≡ load_call (map (λ x. x.now) words.now)) }
+fn load(heap: Global, words: &[&[u8]]) -> Result<Command, ParseError>
+    ensures { IfSome (read_of command_of result) (λ o. o ≡ load_call (map (λ x. x.now) words.now)) }
 {
-    let Some(word) = file_word(words) else {
-        return Ok(None);
-    };
-    match hex_byte_pairs(heap, word)? {
-        Some(bytes) => Ok(Some(Command::Load(bytes))),
-        None => Ok(None),
-    }
+    let word = file_word(words).ok_or(ParseError::Unreadable)?;
+    let bytes = hex_byte_pairs(heap, word)?.ok_or(ParseError::Unreadable)?;
+    Ok(Command::Load(bytes))
 }
 
 // path LENGTH
@@ -131,42 +100,35 @@ fn path(words: &[&[u8]]) -> Option<Command>
     Some(Command::Path(length as usize))
 }
 
-// between S Q
-fn between(words: &[&[u8]]) -> Option<Command>
-    ensures { option_map command_of result ≡ between_call (map (λ x. x.now) words.now) }
-{
-    let [s, q] = numbers(words, [WIDEST, WIDEST])?;
-    Some(Command::Between(s as usize, q as usize))
-}
-
 // check HEX..
-fn check(heap: Global, words: &[&[u8]]) -> Result<Option<Command>, AllocError>
-    ensures { IfOk result (λ o. option_map command_of o ≡ check_call (map (λ x. x.now) words.now)) }
+fn check(heap: Global, words: &[&[u8]]) -> Result<Command, ParseError>
+    ensures { IfSome (read_of command_of result) (λ o. o ≡ check_call (map (λ x. x.now) words.now)) }
 {
-    match moves(heap, words)? {
-        Some(moves) => Ok(Some(Command::Check(moves))),
-        None => Ok(None),
-    }
+    let moves = moves(heap, words)?;
+    Ok(Command::Check(moves))
 }
 
 // The call of that name with the words after it.
-pub fn call(heap: Global, name: Name, words: &[&[u8]]) -> Result<Option<Command>, AllocError>
-    ensures { IfOk result (λ o. option_map command_of o ≡ call_of name (map (λ x. x.now) words.now)) }
+pub fn call(heap: Global, name: Name, words: &[&[u8]]) -> Result<Command, ParseError>
+    ensures { IfSome (read_of command_of result) (λ o. o ≡ call_of name (map (λ x. x.now) words.now)) }
 {
-    match name {
-        Name::Kind => Ok(kind(words)),
-        Name::Size => Ok(size(words)),
-        Name::Row => Ok(add_row(words)),
-        Name::Line => Ok(add_line(words)),
-        Name::RepriceRow => Ok(reprice_row(words)),
-        Name::RepriceLine => Ok(reprice_line(words)),
-        Name::Clear => Ok(alone(Command::ClearLines, words)),
-        Name::Load => load(heap, words),
-        Name::Settle => Ok(alone(Command::Settle, words)),
-        Name::Reopen => Ok(alone(Command::Reopen, words)),
-        Name::Cost => Ok(alone(Command::Cost, words)),
-        Name::Path => Ok(path(words)),
-        Name::Between => Ok(between(words)),
-        Name::Check => check(heap, words),
-    }
+    let command = match name {
+        Name::Kind => kind(words),
+        Name::Size => two(words).map(|(modes, moments)| Command::Size(modes, moments)),
+        Name::Row => add_row(words),
+        Name::Line => add_line(words),
+        Name::RepriceRow => two(words).map(|(row, cost)| Command::RepriceRow(row as usize, cost)),
+        Name::RepriceLine => {
+            two(words).map(|(line, cost)| Command::RepriceLine(line as usize, cost))
+        }
+        Name::Clear => alone(Command::ClearLines, words),
+        Name::Load => return load(heap, words),
+        Name::Settle => alone(Command::Settle, words),
+        Name::Reopen => alone(Command::Reopen, words),
+        Name::Cost => alone(Command::Cost, words),
+        Name::Path => path(words),
+        Name::Between => two(words).map(|(s, q)| Command::Between(s as usize, q as usize)),
+        Name::Check => return check(heap, words),
+    };
+    command.ok_or(ParseError::Unreadable)
 }

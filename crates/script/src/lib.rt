@@ -3,6 +3,7 @@
 
 mod check;
 mod command;
+mod error;
 mod forms;
 mod limits;
 mod name;
@@ -10,6 +11,7 @@ mod running;
 mod script;
 mod telling;
 
-pub use command::{Command, LineWords, RowWords};
+pub use command::Command;
+pub use error::ParseError;
 pub use running::run;
-pub use script::{Parsed, parse, script_part};
+pub use script::{parse, script_part};

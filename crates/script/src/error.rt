@@ -1,0 +1,37 @@
+// Why a line gives no call.
+ghost use Rattle.std.specs.Prelude.{◌≡◌, Some, codes};
+ghost use Rattle.script.specs.declared.error.ParseError.TheVariants.{Unreadable, OutOfMemory};
+ghost use Rattle.script.specs.Errors.{parse_error_text};
+
+use std::alloc::AllocError;
+use std::error::Error;
+use std::fmt;
+
+#[derive(Clone, Copy, Debug, PartialEq, Eq, Hash)]
+pub enum ParseError {
+    // it is no call, or its words are not as the call asks
+    Unreadable,
+    // memory did not suffice
+    OutOfMemory,
+}
+
+impl fmt::Display for ParseError {
+    ghost output = { λ e. Some (parse_error_text e) };
+
+    fn fmt<W: fmt::Write>(&self, f: &mut fmt::Formatter<W>) -> fmt::Result {
+        match self {
+            ParseError::Unreadable => write!(f, "unreadable"),
+            ParseError::OutOfMemory => write!(f, "out of memory"),
+        }
+    }
+}
+
+impl Error for ParseError {}
+
+impl From<AllocError> for ParseError {
+    ghost from_gives = { λ _ error. error ≡ OutOfMemory };
+
+    fn from(_e: AllocError) -> ParseError {
+        ParseError::OutOfMemory
+    }
+}
