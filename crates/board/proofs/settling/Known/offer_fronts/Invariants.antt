@@ -1,7 +1,7 @@
-use Rattle.board.specs.Held.{held}
 use Rattle.board.proofs.settling.Known.offer_fronts.Given as goal
 use Rattle.board.specs.Grown.{Upto}
-use Rattle.board.specs.Logs.{Grows, CallsAt}
+use Rattle.board.specs.Offering.{Grew}
+use Rattle.board.specs.Logs.{CallsAt}
 
 abbrev pub invariant-loop-s : goal.invariant-loop-s
-invariant-loop-s g l = Grows g.K.Kind.meaning (held l.self.tables.now) l.self.log.now l.initial.best l.best (Upto (CallsAt g.K.Kind.meaning (held l.self.tables.now) l.self.log.now l.j l.row) l.s)
+invariant-loop-s g l = Grew g.K.Kind.meaning l.self l.initial.best l.best (λ m c log. Upto (CallsAt m c log l.j l.row) l.s)
