@@ -4,7 +4,7 @@ ghost use Rattle.std.specs.Option.{option_map};
 ghost use Rattle.words.specs.Numbers.{numbers_of};
 ghost use Rattle.script.specs.Calls.{command_of};
 ghost use Rattle.script.specs.Errors.{read_of};
-ghost use Rattle.script.specs.Forms.{two_wide, alone_call, kind_word, kind_call, row_call, line_call, file_word, load_call, path_call};
+ghost use Rattle.script.specs.Forms.{two_wide, alone_call, kind_call, row_call, line_call, file_word, load_call, path_call};
 ghost use Rattle.script.specs.Runs.{check_call};
 ghost use Rattle.script.specs.Script.{call_of};
 
@@ -22,32 +22,18 @@ use words::{hex_byte_pairs, numbers};
 fn alone(command: Command, words: &[&[u8]]) -> Option<Command>
     ensures { option_map command_of result ≡ alone_call (command_of command) (map (λ x. x.now) words.now) }
 {
-    if words.is_empty() {
-        Some(command)
-    } else {
-        None
-    }
-}
-
-// The kind whose letter the word is.
-fn kind_named(word: &[u8]) -> Option<Command>
-    ensures { option_map command_of result ≡ kind_word word.now }
-{
-    let [letter] = word else {
-        return None;
-    };
-    let kind = KindName::try_from(char::from(*letter)).ok()?;
-    Some(Command::Kind(kind))
+    words.is_empty().then_some(command)
 }
 
 // kind LETTER
 fn kind(words: &[&[u8]]) -> Option<Command>
     ensures { option_map command_of result ≡ kind_call (map (λ x. x.now) words.now) }
 {
-    let [word] = words else {
+    let [[letter]] = words else {
         return None;
     };
-    kind_named(word)
+    let kind = KindName::try_from(char::from(*letter)).ok()?;
+    Some(Command::Kind(kind))
 }
 
 // Two numbers of 32 bits.
