@@ -1,5 +1,5 @@
 -- Checking a list of packed moves, move by move.
-use Rattle.std.specs.Prelude.{◌≡◌, ℕ, suc, ◌≤◌, Bool, false, cond, not, ◌||◌, ◌↔◌, List, [], ◌∷◌, ◌++◌, map, length, Some, None, Ok, Err, Option, Result, ◌==◌, nat_lt}
+use Rattle.std.specs.Prelude.{◌≡◌, ℕ, suc, ◌≤◌, Bool, false, cond, not, ◌||◌, ◌↔◌, List, [], ◌∷◌, ◌++◌, map, length, Some, None, Ok, Err, codes, decimal, Option, Result, ◌==◌, nat_lt}
 use Rattle.costs.specs.Meaning.{Meaning}
 use Rattle.board.specs.declared.moves.Move.{Move}
 use Rattle.board.specs.declared.moves.Effect.{Effect}
@@ -9,6 +9,7 @@ use Rattle.board.specs.declared.named.Named.{Named}
 use Rattle.board.specs.declared.refusal.Refusal.{Refusal}
 use Rattle.board.specs.declared.refusal.Refusal.TheVariants.{BadMove, NotNext, BadBracket, TooDeep, NoEnd}
 use Rattle.board.specs.declared.check.Fault.{Fault}
+use Rattle.board.specs.Refusals.{refusal_text}
 use Rattle.board.specs.Content.{Content}
 use Rattle.board.specs.Moves.{Place, origin, is_end}
 use Rattle.board.specs.Arrivals.{named, starts_at, leads}
@@ -87,3 +88,7 @@ pub record PacksReading (m : Meaning) (c : Content) (xs : List ℕ) (k : ℕ) : 
 -- the check accepts exactly the complete readings with at most 4,096 brackets open at any time, at their cost
 abbrev pub AcceptsReadings : Meaning → Content → List ℕ → Result ℕ Fault → Type 0
 AcceptsReadings m c xs r = (k : ℕ) → (r ≡ Ok k) ↔ PacksReading m c xs k
+
+-- how a faulty move is told: the refusal and the move's index
+abbrev pub fault_text : Fault → List ℕ
+fault_text e = refusal_text e.refusal ++ (codes " at " ++ decimal e.index)

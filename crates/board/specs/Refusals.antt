@@ -1,5 +1,5 @@
 -- The numbers of the refusals, and 'the first that applies'.
-use Rattle.std.specs.Prelude.{ℕ, Bool, cond, List, [], ◌∷◌, Some, None, Ok, Err, Option, Result}
+use Rattle.std.specs.Prelude.{ℕ, Bool, cond, List, [], ◌∷◌, ◌++◌, Some, None, Ok, Err, codes, decimal, Option, Result}
 use Rattle.board.specs.declared.refusal.Refusal.{Refusal}
 use Rattle.board.specs.declared.refusal.Refusal.TheVariants.{NotEmpty, SizeOut, RowsFull, ModeOut, BadRow, LinesFull, MomentOut, NoEvent, NoSuch, NoCost, NoReading, TooLong, PlaceOut, Unsettled, BadMove, NotNext, BadBracket, TooDeep, NoEnd}
 
@@ -39,3 +39,7 @@ answer (Some e) x = Err e
 abbrev pub unless : {X : Type 0} → Option Refusal → X → X → X
 unless None done old = done
 unless (Some e) done old = old
+
+-- how a refusal is told: `no` and its number
+abbrev pub refusal_text : Refusal → List ℕ
+refusal_text e = codes "no " ++ decimal (number e)

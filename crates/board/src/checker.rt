@@ -10,7 +10,8 @@ pub(crate) struct Brackets {
     open: ArrayVec<u8, 4096>,
 }
 
-// The place reached, the brackets open there, whether an end row was met (its place stands), and the costs so far joined.
+// The place reached, the brackets open there, whether an end row was met, and the costs so far joined. (Not an optional
+// place: after an end row the place still stands, and what has come so far is told with it.)
 #[derive(Drop)]
 pub(crate) struct Checker {
     place: Place,

@@ -1,6 +1,8 @@
 // Why a call was declined.
-ghost use Rattle.std.specs.Prelude.{◌≡◌};
-ghost use Rattle.board.specs.Refusals.{number};
+ghost use Rattle.std.specs.Prelude.{◌≡◌, Some};
+ghost use Rattle.board.specs.Refusals.{number, refusal_text};
+
+use std::fmt;
 
 // The board's refusals. Each call gives the first of its own that applies, in the order of the numbers.
 #[derive(Clone, Copy, Debug, PartialEq, Eq)]
@@ -47,10 +49,19 @@ pub enum Refusal {
 }
 
 impl Refusal {
-    // Its number.
+    // Its number. (By `as`, the language's own conversion of an enum with numbers.)
     pub fn number(self) -> u8
         ensures { result ≡ number self }
     {
         self as u8
+    }
+}
+
+// As programs tell it: `no` and its number.
+impl fmt::Display for Refusal {
+    ghost output = { λ e. Some (refusal_text e) };
+
+    fn fmt<W: fmt::Write>(&self, f: &mut fmt::Formatter<W>) -> fmt::Result {
+        write!(f, "no {}", self.number())
     }
 }

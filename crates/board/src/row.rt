@@ -41,7 +41,7 @@ pub struct Line {
 }
 
 impl RowKind {
-    // Its number.
+    // Its number. (By `as`, the language's own conversion of an enum with numbers.)
     pub fn number(self) -> u8
         ensures value { result ≡ kind_number self }
         ensures again { kind_of_number result ≡ Some self }

@@ -21,7 +21,9 @@ pub(crate) struct Settling {
     best: [Option<Entry>; 4096],
 }
 
-// The tables and the log so far, from which candidates are offered.
+// The tables and the log so far, from which candidates are offered. (That each best candidate is one of the log stays a
+// clause of what offers: it holds data, and a ghost field must be a proposition. That an entry is within the log stays one
+// too, since a number is within one log only.)
 #[derive(Drop)]
 pub(crate) struct Known<'l, K: Kind> {
     tables: &'l Tables<K>,

@@ -1,8 +1,9 @@
 -- The numbers and the layers of a load's refusals.
-use Rattle.std.specs.Prelude.{ℕ}
+use Rattle.std.specs.Prelude.{ℕ, List, ◌++◌, codes, decimal}
 use Rattle.board.specs.Refusals.{number}
 use Rattle.file.specs.declared.refusal.Layer.{Layer}
 use Rattle.file.specs.declared.refusal.Layer.TheVariants as layer
+use Rattle.file.specs.declared.refusal.LoadFault.{LoadFault}
 use Rattle.file.specs.declared.refusal.FileRefusal.{FileRefusal}
 use Rattle.file.specs.declared.refusal.FileRefusal.TheVariants.{CutShort, WrongLetter, NotZero, WrongTrust, WrongSection, Board}
 
@@ -26,3 +27,8 @@ abbrev pub layer_of : FileRefusal → Layer
 layer_of CutShort = layer.Bytes
 layer_of (Board e) = layer.Board
 layer_of e = layer.File
+
+-- how a declined load is told: `bad`, number, layer and place
+abbrev pub load_fault_text : LoadFault → List ℕ
+load_fault_text e =
+    codes "bad " ++ (decimal (file_number e.refusal) ++ (codes " " ++ (decimal (layer_number (layer_of e.refusal)) ++ (codes " " ++ decimal e.place))))

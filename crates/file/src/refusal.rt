@@ -1,10 +1,11 @@
 // Why a load was declined.
-ghost use Rattle.std.specs.Prelude.{◌≡◌};
+ghost use Rattle.std.specs.Prelude.{◌≡◌, Some};
 ghost use Rattle.file.specs.declared.refusal.FileRefusal.TheVariants.{Board};
-ghost use Rattle.file.specs.Refusals.{file_number, layer_number, layer_of};
+ghost use Rattle.file.specs.Refusals.{file_number, layer_number, layer_of, load_fault_text};
 ghost use Rattle.file.specs.Parts.{fault_at};
 
 use board::Refusal;
+use std::fmt;
 
 // Which layer declined.
 #[derive(Clone, Copy, Debug, PartialEq, Eq)]
@@ -42,7 +43,7 @@ pub struct LoadFault {
 }
 
 impl Layer {
-    // Its number.
+    // Its number. (By `as`, the language's own conversion of an enum with numbers.)
     pub fn number(self) -> u8
         ensures { result ≡ layer_number self }
     {
@@ -108,5 +109,16 @@ impl LoadFault {
         ensures { result ≡ layer_of self.refusal }
     {
         self.refusal.layer()
+    }
+}
+
+// As programs tell it: `bad`, number, layer and place.
+impl fmt::Display for LoadFault {
+    ghost output = { λ e. Some (load_fault_text e) };
+
+    fn fmt<W: fmt::Write>(&self, f: &mut fmt::Formatter<W>) -> fmt::Result {
+        let number = self.number();
+        let layer = self.layer().number();
+        write!(f, "bad {number} {layer} {}", self.place)
     }
 }

@@ -7,6 +7,7 @@ use std::io::{Read, Write};
 // The largest part of the input that is read; no file that loads is longer.
 const LONGEST: u64 = 8192;
 
+// From input to output. (Each program has these lines; a library of its own for them would be no plainer.)
 fn run(rt: &HostRuntime) -> anyhow::Result<()> {
     let mut input = Vec::new(rt.alloc());
     rt.stdin().take(LONGEST).read_to_end(&mut input)?;

@@ -43,7 +43,8 @@ fn numbers<'a>(heap: Global, words: &[&'a [u8]]) -> Result<Vec<u32>, Fault<'a>>
     Ok(numbers)
 }
 
-// The numbers joined under the kind, or the index of the first that is no cost.
+// The numbers joined under the kind, or the index of the first that is no cost. (A kind is a type: a trait whose method is
+// run under each would be no plainer than three arms.)
 fn joined(kind: KindName, numbers: &[u32]) -> Result<u32, usize>
     ensures value { result ≡ join_answer (meaning_of kind) numbers.now }
     ensures within { IfErr result (λ i. i < length numbers.now) }

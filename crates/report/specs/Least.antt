@@ -1,31 +1,34 @@
 -- What `least` prints, by what load, settle, cost and path answer.
-use Rattle.std.specs.Prelude.{ℕ, List, [], ◌++◌, take, replicate, Some, None, Ok, Err, codes, decimal, Option, Result, slice_index_or}
+use Rattle.std.specs.Prelude.{ℕ, cond, ◌==◌, List, [], ◌++◌, take, replicate, Some, None, Ok, Err, codes, decimal, Option, Result, slice_index_or}
 use Rattle.std.proofs.Math.Utf8.{encode}
 use Rattle.std.specs.List.{flat_map, slice_get}
 use Rattle.costs.specs.Meaning.{Meaning}
+use Rattle.costs.specs.Kinds.{points, severity, rank}
 use Rattle.board.specs.declared.row.Row.{Row}
 use Rattle.board.specs.declared.moves.Move.{Move}
 use Rattle.board.specs.declared.refusal.Refusal.{Refusal}
-use Rattle.board.specs.Refusals.{number}
+use Rattle.board.specs.Refusals.{refusal_text}
 use Rattle.board.specs.Content.{Content}
 use Rattle.board.specs.Packing.{unpacked}
 use Rattle.board.specs.Settling.{Record}
 use Rattle.board.specs.Computing.{settled_log}
 use Rattle.board.specs.Questions.{cost_answer, path_answer, path_after}
 use Rattle.file.specs.declared.refusal.LoadFault.{LoadFault}
-use Rattle.file.specs.Refusals.{file_number, layer_number, layer_of}
+use Rattle.file.specs.Refusals.{load_fault_text}
 use Rattle.file.specs.Parts.{Piece}
 use Rattle.file.specs.Load.{load_answer, load_after}
-use Rattle.report.specs.Kinds.{meaning_under}
 
--- the line of a declined load: number, layer and place
+-- the kind whose letter this is, and points under any other
+abbrev pub meaning_under : ℕ → Meaning
+meaning_under letter = cond (letter == severity.letter) severity (cond (letter == rank.letter) rank points)
+
+-- the line of a declined load: `bad`, number, layer and place
 abbrev pub bad_line : LoadFault → List ℕ
-bad_line e =
-    codes "bad " ++ (decimal (file_number e.refusal) ++ (codes " " ++ (decimal (layer_number (layer_of e.refusal)) ++ (codes " " ++ (decimal e.place ++ codes "\n")))))
+bad_line e = load_fault_text e ++ codes "\n"
 
--- the line of a declined question
+-- the line of a declined question: `no` and the refusal's number
 abbrev pub no_line : Refusal → List ℕ
-no_line e = codes "no " ++ (decimal (number e) ++ codes "\n")
+no_line e = refusal_text e ++ codes "\n"
 
 -- the first line: letter, cost and number of moves
 abbrev pub cost_line : ℕ → ℕ → ℕ → List ℕ

@@ -2,7 +2,5 @@
 #![tactic(auto)]
 
 mod files;
-mod kinds;
 
 pub use files::least;
-pub use kinds::Named;

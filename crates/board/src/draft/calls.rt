@@ -66,7 +66,8 @@ impl<K: Kind> Draft<K> {
         Ok(n)
     }
 
-    // Puts the line last, and answers its number.
+    // Puts the line last, and answers its number. (Not one function with `add_row`: each asks for other things, and refuses
+    // otherwise.)
     pub fn add_line(&mut self, line: Line) -> Result<usize, Refusal>
         ensures answer { result ≡ answer (line_fault K.meaning (draft_content self.old) line) (length (draft_content self.old).lines) }
         ensures after { draft_content self.new ≡ line_after K.meaning (draft_content self.old) line }

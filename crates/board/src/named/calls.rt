@@ -50,11 +50,11 @@ impl Named {
     pub(crate) fn starts_at(&self, moments: u8, place: Place) -> bool
         ensures { result ≡ starts_at moments self.now place }
     {
-        let then = match self.line {
-            None => place.1 < moments && self.row.timely(moments, place.1),
-            Some(line) => place.1 == line.from,
-        };
-        place.0 == self.row.from && then
+        place.0 == self.row.from
+            && match self.line {
+                None => place.1 < moments && self.row.timely(moments, place.1),
+                Some(line) => place.1 == line.from,
+            }
     }
 
     // Where it leads from the place, at what cost, and what it does to the brackets.

@@ -88,7 +88,8 @@ impl<K: Kind> Known<'_, K> {
         }
     }
 
-    // Each call with the inside j that the row opens.
+    // Each call with the inside j that the row opens. (Not one function with `offer_insides`: this one goes back over the row
+    // to where the front ends, and the pairs are read the other way round.)
     pub(crate) fn offer_fronts(&self, j: usize, row: u8, best: &mut [Option<Entry>])
         requires within { j < self.now.log.now.count }
         requires ok { BestOf K.meaning self.now best.old }

@@ -1,4 +1,4 @@
-use Rattle.std.proofs.Common.{◌≡◌, ℕ, List, IfOk, Ok, vec_items, Result, ap, ◌∙◌, subst}
+use Rattle.std.proofs.Common.{◌≡◌, ℕ, List, IfOk, Ok, string_bytes, Result, ap, ◌∙◌, subst}
 use Rattle.costs.specs.Meaning.{Meaning}
 use Rattle.board.specs.Content.{Content}
 use Rattle.board.specs.Settling.{Record}
@@ -17,6 +17,6 @@ pub returns-in-Ok : goal.returns-in-Ok
 returns-in-Ok g c =
     let l = c.in-Ok.ensures in
     let s = c.settle.ensures in
-    subst (λ (z : List ℕ). IfOk c.reading.result (λ v. vec_items v ≡ z))
+    subst (λ (z : List ℕ). IfOk c.reading.result (λ v. string_bytes v ≡ z))
     (loaded_so g.K.Kind.meaning _ _ _ _ _ _ l.answer s.content l.after s.computed)
     c.reading.ensures
