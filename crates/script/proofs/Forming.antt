@@ -1,30 +1,11 @@
 -- The words of a call, by how many there are.
 use Rattle.std.proofs.Common.{◌≡◌, ℕ, ◌<◌, false, List, [], ◌∷◌, map, length, get_or, Some, None, refl, arith, Bor}
-use Rattle.script.specs.Calls.{Call}
-use Rattle.script.specs.Forms.{alone_call, kind_word, kind_call, file_word}
+use Rattle.script.specs.Forms.{file_word}
 use Rattle.script.specs.Script.{is_comment, skip, words_parsed}
 
 pub empty_word : (w : List ℕ) → length w ≡ 0 → false ≡ is_comment w
 empty_word [] none = refl
 empty_word (b ∷ w) none = absurd (omega arith)
-
-pub alone_none : (c : Call) (ws : List (Bor (List ℕ))) → length ws ≡ 0 → Some c ≡ alone_call c (map (λ x. x.now) ws)
-alone_none c [] none = refl
-alone_none c (w ∷ ws) none = absurd (omega arith)
-
-pub alone_some : (c : Call) (ws : List (Bor (List ℕ))) → 0 < length ws → None ≡ alone_call c (map (λ x. x.now) ws)
-alone_some c [] some = absurd (omega arith)
-alone_some c (w ∷ ws) some = refl
-
-pub kind_one : (ws : List (Bor (List ℕ))) (d : Bor (List ℕ)) → length ws ≡ 1 → kind_word (get_or ws 0 d).now ≡ kind_call (map (λ x. x.now) ws)
-kind_one [] d one = absurd (omega arith)
-kind_one (w ∷ []) d one = refl
-kind_one (w ∷ v ∷ ws) d one = absurd (omega arith)
-
-pub kind_other : (ws : List (Bor (List ℕ))) → (length ws ≡ 1 → ⊥) → None ≡ kind_call (map (λ x. x.now) ws)
-kind_other [] other = refl
-kind_other (w ∷ []) other = absurd (other refl)
-kind_other (w ∷ v ∷ ws) other = refl
 
 pub file_none : (ws : List (Bor (List ℕ))) → length ws ≡ 0 → Some [] ≡ file_word (map (λ x. x.now) ws)
 file_none [] none = refl

@@ -37,23 +37,21 @@ fn buffer_of(heap: Global, command: &Command) -> Result<Vec<u16>, AllocError> {
 
 // One call on a board: adds its answer, and gives the board after it.
 fn called<K: Kind>(
-    heap: Global,
     out: &mut Vec<u8>,
     board: Board<K>,
     command: &Command,
 ) -> Result<Board<K>, AllocError> {
-    let mut buffer = buffer_of(heap, command)?;
+    let mut buffer = buffer_of(*out.allocator(), command)?;
     let Some(call) = command.call() else {
         return Ok(board);
     };
     let (next, answer) = step(board, call, buffer.as_mut_slice());
-    push_answer(heap, out, answer, buffer.as_slice())?;
+    push_answer(out, answer, buffer.as_slice())?;
     Ok(next)
 }
 
 // A command of the script: a new board, or one call on the board that there is, if any.
 fn obeyed(
-    heap: Global,
     out: &mut Vec<u8>,
     session: Option<Session>,
     command: &Command,
@@ -67,9 +65,9 @@ fn obeyed(
             out.extend_from_slice(b"not taken")?;
             return Ok(None);
         }
-        Some(Session::Points(board)) => Session::Points(called(heap, out, board, command)?),
-        Some(Session::Severity(board)) => Session::Severity(called(heap, out, board, command)?),
-        Some(Session::Rank(board)) => Session::Rank(called(heap, out, board, command)?),
+        Some(Session::Points(board)) => Session::Points(called(out, board, command)?),
+        Some(Session::Severity(board)) => Session::Severity(called(out, board, command)?),
+        Some(Session::Rank(board)) => Session::Rank(called(out, board, command)?),
     };
     Ok(Some(next))
 }
@@ -82,15 +80,15 @@ pub fn run(heap: Global, input: &[u8]) -> Result<Vec<u8>, AllocError> {
     for line in lines.as_slice() {
         match parse(heap, line) {
             Ok(None) => continue,
-            Err(ParseError::OutOfMemory) => return Err(AllocError),
+            Ok(Some(command)) => {
+                out.extend_from_slice(script_part(line))?;
+                session = obeyed(&mut out, session, &command)?;
+            }
             Err(ParseError::Unreadable) => {
                 out.extend_from_slice(script_part(line))?;
                 out.extend_from_slice(b" -> unreadable")?;
             }
-            Ok(Some(command)) => {
-                out.extend_from_slice(script_part(line))?;
-                session = obeyed(heap, &mut out, session, &command)?;
-            }
+            Err(ParseError::OutOfMemory) => return Err(AllocError),
         }
         out.extend_from_slice(b"\n")?;
     }

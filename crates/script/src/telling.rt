@@ -1,54 +1,30 @@
 // What is printed of a call's answer.
-use board::{Fault, Refusal};
-use file::{Answer, LoadFault, Note};
-use std::alloc::{AllocError, Global};
+use file::{Answer, Note};
+use std::alloc::AllocError;
+use std::fmt::Display;
 use words::{push_hex_byte, push_hex_u16};
 
 // The longest buffer that is printed.
 const SHOWN: usize = 40;
 
-fn push_number(heap: Global, out: &mut Vec<u8>, n: usize) -> Result<(), AllocError> {
-    let text = format!(in heap; "{n}")?;
+// Adds the value's own text.
+fn push_text<T: Display>(out: &mut Vec<u8>, value: &T) -> Result<(), AllocError> {
+    let text = format!(in *out.allocator(); "{value}")?;
     out.extend_from_slice(text.as_bytes())
 }
 
-fn push_refusal(heap: Global, out: &mut Vec<u8>, refusal: Refusal) -> Result<(), AllocError> {
-    let number = refusal.number();
-    let text = format!(in heap; "no {number}")?;
-    out.extend_from_slice(text.as_bytes())
-}
-
-fn push_fault(heap: Global, out: &mut Vec<u8>, fault: Fault) -> Result<(), AllocError> {
-    push_refusal(heap, out, fault.refusal)?;
-    let index = fault.index;
-    let text = format!(in heap; " at {index}")?;
-    out.extend_from_slice(text.as_bytes())
-}
-
-// An answered number, or the refusal.
-fn push_count(
-    heap: Global,
+// Adds what was answered, or why it was refused.
+fn push_result<T: Display + Drop, E: Display + Drop>(
     out: &mut Vec<u8>,
-    answer: Result<usize, Refusal>,
+    answer: Result<T, E>,
 ) -> Result<(), AllocError> {
     match answer {
-        Ok(n) => push_number(heap, out, n),
-        Err(refusal) => push_refusal(heap, out, refusal),
+        Ok(value) => push_text(out, &value),
+        Err(refusal) => push_text(out, &refusal),
     }
 }
 
-fn push_done(
-    heap: Global,
-    out: &mut Vec<u8>,
-    answer: Result<(), Refusal>,
-) -> Result<(), AllocError> {
-    match answer {
-        Ok(()) => out.extend_from_slice(b"ok"),
-        Err(refusal) => push_refusal(heap, out, refusal),
-    }
-}
-
-// The whole buffer, where it is not too long to be shown.
+// Adds the whole buffer, where it is not too long to be shown.
 fn push_buffer(out: &mut Vec<u8>, buffer: &[u16]) -> Result<(), AllocError> {
     if buffer.len() > SHOWN {
         return Ok(());
@@ -60,9 +36,9 @@ fn push_buffer(out: &mut Vec<u8>, buffer: &[u16]) -> Result<(), AllocError> {
     Ok(())
 }
 
-fn push_note(heap: Global, out: &mut Vec<u8>, note: Note<'_>) -> Result<(), AllocError> {
-    let place = note.place;
-    let text = format!(in heap; "note {place} ")?;
+// Adds a note: its place and its bytes.
+fn push_note(out: &mut Vec<u8>, note: Note<'_>) -> Result<(), AllocError> {
+    let text = format!(in *out.allocator(); "note {} ", note.place)?;
     out.extend_from_slice(text.as_bytes())?;
     for byte in note.bytes {
         push_hex_byte(out, *byte)?;
@@ -70,42 +46,30 @@ fn push_note(heap: Global, out: &mut Vec<u8>, note: Note<'_>) -> Result<(), Allo
     Ok(())
 }
 
-fn push_bad(heap: Global, out: &mut Vec<u8>, fault: LoadFault) -> Result<(), AllocError> {
-    let number = fault.number();
-    let layer = fault.layer().number();
-    let place = fault.place;
-    let text = format!(in heap; "bad {number} {layer} {place}")?;
-    out.extend_from_slice(text.as_bytes())
-}
-
 // Adds the answer of a call; `buffer` is the one that stood beside it.
 pub(crate) fn push_answer(
-    heap: Global,
     out: &mut Vec<u8>,
     answer: Answer<'_>,
     buffer: &[u16],
 ) -> Result<(), AllocError> {
     match answer {
         Answer::NotTaken => out.extend_from_slice(b"not taken"),
-        Answer::Sized(r) => push_done(heap, out, r),
-        Answer::Added(r) => push_count(heap, out, r),
-        Answer::Repriced(r) => push_done(heap, out, r),
-        Answer::Cleared(n) => push_number(heap, out, n),
-        Answer::Loaded(Ok(note)) => push_note(heap, out, note),
-        Answer::Loaded(Err(fault)) => push_bad(heap, out, fault),
         Answer::Settled | Answer::Reopened => out.extend_from_slice(b"ok"),
+        Answer::Sized(r) | Answer::Repriced(r) => push_result(out, r.map(|()| "ok")),
+        Answer::Added(r) => push_result(out, r),
+        Answer::Cleared(n) => push_text(out, &n),
+        Answer::Loaded(Ok(note)) => push_note(out, note),
+        Answer::Loaded(Err(fault)) => push_text(out, &fault),
         Answer::Cost(Ok((cost, moves))) => {
-            let text = format!(in heap; "{cost} {moves}")?;
+            let text = format!(in *out.allocator(); "{cost} {moves}")?;
             out.extend_from_slice(text.as_bytes())
         }
-        Answer::Cost(Err(refusal)) => push_refusal(heap, out, refusal),
+        Answer::Cost(Err(refusal)) => push_text(out, &refusal),
         Answer::Path(r) => {
-            push_count(heap, out, r)?;
+            push_result(out, r)?;
             push_buffer(out, buffer)
         }
-        Answer::Between(Ok(cost)) => push_number(heap, out, cost as usize),
-        Answer::Between(Err(refusal)) => push_refusal(heap, out, refusal),
-        Answer::Checked(Ok(cost)) => push_number(heap, out, cost as usize),
-        Answer::Checked(Err(fault)) => push_fault(heap, out, fault),
+        Answer::Between(r) => push_result(out, r),
+        Answer::Checked(r) => push_result(out, r),
     }
 }
