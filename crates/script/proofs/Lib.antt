@@ -1,4 +1,3 @@
-pub mod Forming
 pub mod Repeating
 pub mod Plain
 pub mod Arrows

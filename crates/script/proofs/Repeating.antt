@@ -1,6 +1,6 @@
 -- Runs added one after another.
-use Rattle.std.proofs.Common.{◌≡◌, ℕ, ◌+◌, ◌-◌, ◌<◌, ◌≤◌, List, [], ◌++◌, length, get_or, take, drop, replicate, Some, None, Option, sym, refl, ap, ◌∙◌, arith}
-use Rattle.std.proofs.lemmas.List.{append_assoc, append-nil, length-append, drop_more, drop_all, take_all}
+use Rattle.std.proofs.Common.{◌≡◌, ℕ, ◌+◌, ◌-◌, ◌<◌, ◌≤◌, List, [], ◌++◌, length, get_or, take, drop, replicate, Some, None, Option, Bor, sym, refl, ap, ◌∙◌, arith, map, ◌∷◌}
+use Rattle.std.proofs.lemmas.List.{append_assoc, append-nil, length-append, length-map, length-replicate, get_or-map, drop_more, drop_all, take_all}
 use Rattle.std.proofs.lemmas.Bool.{cond-true, cond-false, le-leb, lt-leb}
 use Rattle.script.specs.Forms.{longest}
 use Rattle.script.specs.Runs.{run_of, run_moves, run_before, runs_of, not_too_long}
@@ -25,22 +25,24 @@ too_long xs None long = refl
 too_long xs (Some ys) long = cond-false _ _ _ (lt-leb (length (xs ++ ys)) longest (omega (arith, length-append xs ys)))
 
 -- what is left of the words
-module _ (ws : List (List ℕ)) (i : ℕ) (within : i < length ws) (xs : List ℕ) where
-  pub run_next : (r : Run) → run_of (get_or ws i []) ≡ Some r → not_too_long (after (xs ++ run_moves r) (runs_of (drop (i + 1) ws))) ≡ not_too_long (after xs (runs_of (drop i ws)))
+module _ (words : List (Bor (List ℕ))) (i : ℕ) (within : i < length words) (d : Bor (List ℕ)) (xs : List ℕ) where
+  abbrev left : ℕ → List (List ℕ)
+  left k = drop k (map (λ x. x.now) words)
+
+  here : left i ≡ (get_or words i d).now ∷ left (i + 1)
+  here =
+      drop_more (map (λ x. x.now) words) i [] (omega (arith, within, length-map words (λ x. x.now)))
+      ∙ ap (λ w. w ∷ left (i + 1)) (get_or-map (λ x. x.now) words i d [] within)
+
+  pub run_next : (r : Run) → run_of (get_or words i d).now ≡ Some r → not_too_long (after (xs ++ run_moves r) (runs_of (left (i + 1)))) ≡ not_too_long (after xs (runs_of (left i)))
   run_next r e =
-      ap not_too_long (one_run xs r (runs_of (drop (i + 1) ws)) ∙ ap (λ o. after xs (run_before o (runs_of (drop (i + 1) ws)))) (sym e))
-      ∙ sym (ap (λ vs. not_too_long (after xs (runs_of vs))) (drop_more ws i [] within))
+      ap not_too_long (one_run xs r (runs_of (left (i + 1))) ∙ ap (λ o. after xs (run_before o (runs_of (left (i + 1))))) (sym e))
+      ∙ sym (ap (λ vs. not_too_long (after xs (runs_of vs))) here)
 
-  pub run_stop : run_of (get_or ws i []) ≡ None → not_too_long (after xs (runs_of (drop i ws))) ≡ None
-  run_stop e =
-      ap (λ vs. not_too_long (after xs (runs_of vs))) (drop_more ws i [] within)
-      ∙ ap (λ o. not_too_long (after xs (run_before o (runs_of (drop (i + 1) ws))))) e
+  pub run_stop : run_of (get_or words i d).now ≡ None → not_too_long (after xs (runs_of (left i))) ≡ None
+  run_stop e = ap (λ vs. not_too_long (after xs (runs_of vs))) here ∙ ap (λ o. not_too_long (after xs (run_before o (runs_of (left (i + 1)))))) e
 
-  pub run_too_long : (r : Run) → run_of (get_or ws i []) ≡ Some r → longest < length (xs ++ run_moves r) → not_too_long (after xs (runs_of (drop i ws))) ≡ None
-  run_too_long r e long = sym (run_next r e) ∙ too_long (xs ++ run_moves r) (runs_of (drop (i + 1) ws)) long
-
-pub runs_end : (ws : List (List ℕ)) (i : ℕ) (xs : List ℕ) → length ws ≤ i → length xs ≤ longest → not_too_long (after xs (runs_of (drop i ws))) ≡ Some xs
-runs_end ws i xs past short =
-    ap (λ vs. not_too_long (after xs (runs_of vs))) (drop_all i ws past)
-    ∙ ap (λ l. not_too_long (Some l)) (append-nil xs)
-    ∙ cond-true _ _ _ (le-leb (length xs) longest short)
+  pub run_too_long : (r : Run) → run_of (get_or words i d).now ≡ Some r → longest < length xs + r.times → not_too_long (after xs (runs_of (left i))) ≡ None
+  run_too_long r e long =
+      sym (run_next r e)
+      ∙ too_long (xs ++ run_moves r) (runs_of (left (i + 1))) (omega (arith, long, length-append xs (run_moves r), length-replicate r.times r.number))

@@ -46,6 +46,7 @@ fn parse_words(heap: Global, words: &[&[u8]]) -> Result<Option<Command>, ParseEr
 }
 
 // What the line says: a command, or nothing where it is empty or a comment.
+#[tactic(auto, using(crate::proofs::Writing::reads_written))]
 pub fn parse(heap: Global, line: &[u8]) -> Result<Option<Command>, ParseError>
     ensures made { IfSome (parsed_of result) (λ p. p ≡ line_parsed line.now) }
     ensures reads_written { ReadsWritten }
