@@ -16,7 +16,7 @@ use Rattle.words.specs.Pieces.{spacing, pieces_of, NoSeparator}
 use Rattle.words.proofs.Digits.{reads_back}
 use Rattle.words.proofs.HexDigits.{bytes_read_back, number_reads_back}
 use Rattle.script.specs.Calls.{Call, kind, size, row, line, reprice_row, reprice_line, clear, load, settle, reopen, cost, path, between, check}
-use Rattle.script.specs.Forms.{longest, two_wide, row_limits, line_limits, kind_word, row_from, line_from, load_call}
+use Rattle.script.specs.Forms.{longest, two_wide, row_limits, line_limits, kind_word, two_call, row_from, line_from, load_call}
 use Rattle.script.specs.Names.{spells}
 use Rattle.script.specs.Runs.{run_of, run_from, split_run, run_before, runs_of, not_too_long, check_call}
 use Rattle.script.specs.Script.{call, call_parsed, words_parsed}
@@ -122,6 +122,9 @@ kind_back row_kind.End = refl
 abbrev with_kind : Row → RowKind → Call
 with_kind r k = row record { kind = k; from = r.from; to = r.to; label = r.label; action = r.action; cost = r.cost }
 
+says_two : (make : ℕ → ℕ → Call) (a b : ℕ) → UpTo two_wide (a ∷ b ∷ []) → two_call make (map decimal (a ∷ b ∷ [])) ≡ Some (make a b)
+says_two make a b fits = ap (option_map (λ ns. make (get_or ns 0 0) (get_or ns 1 0))) (numbers_back two_wide (a ∷ b ∷ []) two_wide_fit fits)
+
 says_file : (bs : List ℕ) → AllByRecursion (λ b. b < 2 ^ 8) bs → load_call (file_words bs) ≡ Some (load bs)
 says_file [] small = refl
 says_file (b ∷ bs) small = ap (option_map load) (bytes_read_back (b ∷ bs) small)
@@ -133,18 +136,18 @@ says_moves ms small short =
 says : (c : Call) → Fits c → words_parsed (name_word c ∷ words_after c) ≡ call c
 unfolding spells
 says (kind k) fits = ap call_parsed (says_kind k)
-says (size m t) fits = ap (λ o. call_parsed (option_map (λ ns. size (get_or ns 0 0) (get_or ns 1 0)) o)) (numbers_back two_wide (m ∷ t ∷ []) two_wide_fit fits)
+says (size m t) fits = ap call_parsed (says_two size m t fits)
 says (row r) fits = ap (λ o. call_parsed (option_and_then row_from o)) (numbers_back row_limits (row_numbers r) row_limits_fit fits) ∙ ap (λ o. call_parsed (option_map (with_kind r) o)) (kind_back r.kind)
 says (line l) fits = ap (λ o. call_parsed (option_map line_from o)) (numbers_back line_limits (line_numbers l) line_limits_fit fits)
-says (reprice_row i c) fits = ap (λ o. call_parsed (option_map (λ ns. reprice_row (get_or ns 0 0) (get_or ns 1 0)) o)) (numbers_back two_wide (i ∷ c ∷ []) two_wide_fit fits)
-says (reprice_line i c) fits = ap (λ o. call_parsed (option_map (λ ns. reprice_line (get_or ns 0 0) (get_or ns 1 0)) o)) (numbers_back two_wide (i ∷ c ∷ []) two_wide_fit fits)
+says (reprice_row i c) fits = ap call_parsed (says_two reprice_row i c fits)
+says (reprice_line i c) fits = ap call_parsed (says_two reprice_line i c fits)
 says clear fits = refl
 says (load bs) fits = ap call_parsed (says_file bs fits)
 says settle fits = refl
 says reopen fits = refl
 says cost fits = refl
 says (path n) fits = ap (λ o. call_parsed (option_map (λ ns. path (get_or ns 0 0)) o)) (numbers_back (longest ∷ []) (n ∷ []) longest_fits (fits, tt))
-says (between s q) fits = ap (λ o. call_parsed (option_map (λ ns. between (get_or ns 0 0) (get_or ns 1 0)) o)) (numbers_back two_wide (s ∷ q ∷ []) two_wide_fit fits)
+says (between s q) fits = ap call_parsed (says_two between s q fits)
 says (check ms) fits = ap call_parsed (says_moves ms fits.0 fits.1)
 
 unpointed : (c : Call) → Fits c → NoSeparator point (written c)

@@ -19,16 +19,12 @@ pub struct Run {
 fn read_run(word: &[u8]) -> Option<Run>
     ensures { result ≡ run_of word.now }
 {
-    match split_once(word, b"*") {
-        Some((hex, times)) => Some(Run {
-            number: hex_u16(hex)?,
-            times: number(times, WIDEST)? as u32,
-        }),
-        None => Some(Run {
-            number: hex_u16(word)?,
-            times: 1,
-        }),
-    }
+    let (hex, times) = match split_once(word, b"*") {
+        Some((hex, times)) => (hex, number(times, WIDEST)? as u32),
+        None => (word, 1),
+    };
+    let number = hex_u16(hex)?;
+    Some(Run { number, times })
 }
 
 // The numbers that the words list, where there are not too many.

@@ -11,7 +11,7 @@ ghost use Rattle.script.specs.Script.{call_of};
 use crate::check::moves;
 use crate::command::Command;
 use crate::error::ParseError;
-use crate::limits::{LONGEST, WIDEST};
+use crate::limits::{BYTE, LONGEST, WIDEST};
 use crate::name::Name;
 use board::{Line, Row, RowKind};
 use costs::KindName;
@@ -48,7 +48,7 @@ fn two(words: &[&[u8]]) -> Option<(u32, u32)>
 fn add_row(words: &[&[u8]]) -> Option<Command>
     ensures { option_map command_of result ≡ row_call (map (λ x. x.now) words.now) }
 {
-    let [kind, from, to, label, action, cost] = numbers(words, [255, 255, 255, 255, 255, WIDEST])?;
+    let [kind, from, to, label, action, cost] = numbers(words, [BYTE, BYTE, BYTE, BYTE, BYTE, WIDEST])?;
     Some(Command::AddRow(Row {
         kind: RowKind::try_from(kind as u8).ok()?,
         from: from as u8,
@@ -63,7 +63,7 @@ fn add_row(words: &[&[u8]]) -> Option<Command>
 fn add_line(words: &[&[u8]]) -> Option<Command>
     ensures { option_map command_of result ≡ line_call (map (λ x. x.now) words.now) }
 {
-    let [from, to, event, cost] = numbers(words, [255, 255, 255, WIDEST])?;
+    let [from, to, event, cost] = numbers(words, [BYTE, BYTE, BYTE, WIDEST])?;
     Some(Command::AddLine(Line {
         from: from as u8,
         to: to as u8,

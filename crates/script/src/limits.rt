@@ -1,7 +1,8 @@
 // The limits of the numbers in a script.
 
-// The largest number of 32 bits.
-pub const WIDEST: u64 = 4_294_967_295;
+// The largest numbers of 8 and of 32 bits.
+pub const BYTE: u64 = u8::MAX as u64;
+pub const WIDEST: u64 = u32::MAX as u64;
 
 // The largest length of a buffer or of a list.
 pub const LONGEST: usize = 1_048_576;

@@ -9,7 +9,8 @@ use file::{Board, step};
 use std::alloc::{AllocError, Global};
 use words::{Newline, pieces};
 
-// The board that a script works on, by its kind.
+// The board that a script works on, by its kind. (An arm for each kind, here and where a call is made: a trait of
+// its own for the two would be longer.)
 #[derive(Drop)]
 enum Session {
     Points(Board<Points>),

@@ -1,6 +1,6 @@
 // Reading a line of a script.
 ghost use Rattle.std.specs.Prelude.{◌≡◌, map, IfSome};
-ghost use Rattle.script.specs.Script.{script_part_of, is_comment, words_parsed, line_parsed, parsed_of};
+ghost use Rattle.script.specs.Script.{script_part_of, words_parsed, line_parsed, parsed_of};
 ghost use Rattle.script.specs.Written.{ReadsWritten};
 
 use crate::command::Command;
@@ -14,35 +14,22 @@ use words::{Spacing, pieces, split_once, trimmed};
 pub fn script_part(line: &[u8]) -> &[u8]
     ensures { result.now ≡ script_part_of line.now }
 {
-    match split_once(line, b" -> ") {
-        Some((script, _)) => trimmed::<Spacing>(script),
-        None => trimmed::<Spacing>(line),
-    }
-}
-
-// Whether the word begins a comment.
-fn begins_comment(word: &[u8]) -> bool
-    ensures { result ≡ is_comment word.now }
-{
-    match word {
-        [first, ..] => *first == b'#',
-        [] => false,
-    }
+    let script = split_once(line, b" -> ").map_or(line, |(script, _)| script);
+    trimmed::<Spacing>(script)
 }
 
 // What a line of these words says: a command, or nothing where it is empty or a comment.
 fn parse_words(heap: Global, words: &[&[u8]]) -> Result<Option<Command>, ParseError>
     ensures { IfSome (parsed_of result) (λ p. p ≡ words_parsed (map (λ x. x.now) words.now)) }
 {
-    let Some((first, rest)) = words.split_first() else {
-        return Ok(None);
-    };
-    if begins_comment(first) {
-        return Ok(None);
+    match words {
+        [] | [[b'#', ..], ..] => Ok(None),
+        [first, rest @ ..] => {
+            let name = named(first).ok_or(ParseError::Unreadable)?;
+            let command = call(heap, name, rest)?;
+            Ok(Some(command))
+        }
     }
-    let name = named(first).ok_or(ParseError::Unreadable)?;
-    let command = call(heap, name, rest)?;
-    Ok(Some(command))
 }
 
 // What the line says: a command, or nothing where it is empty or a comment.
