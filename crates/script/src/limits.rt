@@ -2,6 +2,7 @@
 
 // The largest numbers of 8 and of 32 bits.
 pub const BYTE: u64 = u8::MAX as u64;
+
 pub const WIDEST: u64 = u32::MAX as u64;
 
 // The largest length of a buffer or of a list.
