@@ -1,7 +1,7 @@
 -- Runs added one after another.
-use Rattle.std.proofs.Common.{◌≡◌, ℕ, ◌+◌, ◌-◌, ◌<◌, ◌≤◌, List, [], ◌++◌, length, get_or, take, drop, replicate, Some, None, Option, Bor, sym, refl, ap, ◌∙◌, arith, map, ◌∷◌}
-use Rattle.std.proofs.lemmas.List.{append_assoc, append-nil, length-append, length-map, length-replicate, get_or-map, drop_more, drop_all, take_all}
-use Rattle.std.proofs.lemmas.Bool.{cond-true, cond-false, le-leb, lt-leb}
+use Rattle.std.proofs.Common.{◌≡◌, ℕ, ◌+◌, ◌-◌, ◌<◌, List, [], ◌++◌, length, get_or, take, drop, replicate, Some, None, Option, Bor, sym, refl, ap, ◌∙◌, arith, map, ◌∷◌}
+use Rattle.std.proofs.lemmas.List.{append_assoc, length-append, length-map, length-replicate, get_or-map, drop_more, take_all}
+use Rattle.std.proofs.lemmas.Bool.{cond-false, lt-leb}
 use Rattle.script.specs.Forms.{longest}
 use Rattle.script.specs.Runs.{run_of, run_moves, run_before, runs_of, not_too_long}
 use Rattle.script.specs.declared.check.Run.{Run}

@@ -32,6 +32,6 @@ impl From<AllocError> for ParseError {
     ghost from_gives = { λ _ error. error ≡ OutOfMemory };
 
     fn from(_e: AllocError) -> ParseError {
-        ParseError::OutOfMemory
+        Self::OutOfMemory
     }
 }

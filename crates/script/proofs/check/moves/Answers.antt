@@ -1,5 +1,5 @@
-use Rattle.std.proofs.Common.{◌≡◌, ◌+◌, ◌++◌, map, drop, vec_items, vec_len, sym, ap, ◌∙◌, arith, rules}
-use Rattle.script.specs.Runs.{run_moves, runs_of, not_too_long}
+use Rattle.std.proofs.Common.{◌+◌, map, drop, vec_items, vec_len, sym, ap, ◌∙◌, arith, rules}
+use Rattle.script.specs.Runs.{runs_of, not_too_long}
 use Rattle.script.proofs.Repeating.{after, filled, run_next, run_stop, run_too_long}
 use Rattle.script.proofs.check.moves.Goals as goal
 
