@@ -21,12 +21,15 @@ fn push_word_line(out: &mut Vec<u8>, label: &[u8], word: &[u8]) -> Result<(), Al
 
 // Adds what is printed of an answer. A number that is no cost of the kind is refusal 10. (Where memory did not suffice,
 // nothing is printed, and that is the error of the whole.)
-fn push_answer(heap: Global, out: &mut Vec<u8>, answer: Answer<'_>) -> Result<(), AllocError>
+fn push_answer(out: &mut Vec<u8>, answer: Answer<'_>) -> Result<(), AllocError>
     ensures { OnOk result (IsSomeAnd (answer_of answer.entry) (λ a. out.new.items ≡ out.old.items ++ printed a)) }
 {
     match answer {
         Ok(None) => Ok(()),
-        Ok(Some(total)) => out.extend_from_slice(format!(in heap; "{total}\n")?.as_bytes()),
+        Ok(Some(total)) => {
+            let line = format!(in *out.allocator(); "{total}\n")?;
+            out.extend_from_slice(line.as_bytes())
+        }
         Err(Fault::NoCost(word)) => push_word_line(out, b"no 10 ", word),
         Err(Fault::Unreadable(word)) => push_word_line(out, b"unreadable ", word),
         Err(Fault::OutOfMemory) => Err(AllocError),
@@ -42,7 +45,7 @@ pub fn report(heap: Global, input: &[u8]) -> Result<Vec<u8>, AllocError>
     let lines = pieces::<Newline>(heap, input)?;
     let mut out = Vec::new(heap);
     for line in lines.as_slice() {
-        push_answer(heap, &mut out, answer(heap, line))?;
+        push_answer(&mut out, answer(heap, line))?;
     }
     Ok(out)
 }

@@ -27,6 +27,7 @@ pub fn hex_byte_pairs(heap: Global, word: &[u8]) -> Result<Option<Vec<u8>>, Allo
     let mut rest = word;
     // two digits at a time; what is left in the end shows whether they pair up
     while let [high, low, after @ ..] = rest {
+        // no `?`: that the word writes no bytes is an answer, and memory the error
         let Some(byte) = hex_byte(*high, *low) else {
             return Ok(None);
         };
