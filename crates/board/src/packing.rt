@@ -1,5 +1,5 @@
 // A move packed into 16 bits, most significant first: a zero bit, the row in 7 bits, a bit that is 1 with a line, the
-// line in 7 bits or zeros.
+// line in 7 bits or zeros. (By hand, and not by conversion traits: this is the format, and only small moves have it.)
 ghost use Rattle.std.specs.Prelude.{◌≡◌};
 ghost use Rattle.board.specs.Packing.{packed, Small, unpacked, PackingIsExact};
 

@@ -23,7 +23,7 @@ pub enum KindName {
 pub struct UnknownLetter(pub char);
 
 impl KindName {
-    // The kind's letter.
+    // The kind's letter. (An arm for each: a kind is a type.)
     pub fn letter(self) -> char
         ensures value { result ≡ letter_of self }
         ensures reads_back { named_by result ≡ Some self }

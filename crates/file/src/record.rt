@@ -25,7 +25,7 @@ pub(crate) trait Record: Sized {
     fn read(word: u64) -> Result<Self, FileRefusal>
         ensures { result ≡ read_as word };
 
-    // Puts it on the board, a line's cost as trust has it.
+    // Puts it on the board, a line's cost as trust has it. (Draft and trust are lent by `Filling`, which holds them.)
     fn add<K: Kind>(self, draft: &mut Draft<K>, trust: u8) -> Result<(), FileRefusal>
         ensures after { told result (draft_content draft.new) ≡ added K.meaning trust (draft_content draft.old) self };
 }

@@ -52,7 +52,7 @@ impl Layer {
 }
 
 impl FileRefusal {
-    // Its number.
+    // Its number. (By hand: the numbers go on from the board's, and its refusals keep theirs.)
     pub fn number(self) -> u8
         ensures { result ≡ file_number self }
     {
@@ -66,7 +66,7 @@ impl FileRefusal {
         }
     }
 
-    // The layer that declines with it.
+    // The layer that declines with it. (By hand: it follows from what the refusal says.)
     pub fn layer(self) -> Layer
         ensures { result ≡ layer_of self }
     {

@@ -4,6 +4,7 @@
 use script::run as run_script;
 use std::io::{Read, Write};
 
+// From input to output. (Each program has these lines; a library of its own for them would be no plainer.)
 fn run(rt: &HostRuntime) -> anyhow::Result<()> {
     let mut input = Vec::new(rt.alloc());
     rt.stdin().read_to_end(&mut input)?;

@@ -49,6 +49,7 @@ fn reading<K: Kind>(heap: Global, settled: &Settled<K>) -> Result<String, AllocE
         Ok(answer) => answer,
         Err(refusal) => return format!(in heap; "{refusal}\n"),
     };
+    // `path` fills the front of a buffer, and tells how much
     let mut buffer = [0; 4096];
     let n = match settled.path(&mut buffer) {
         Ok(n) => n,

@@ -89,6 +89,7 @@ pub fn run(heap: Global, input: &[u8]) -> Result<Vec<u8>, AllocError> {
                 out.extend_from_slice(script_part(line))?;
                 out.extend_from_slice(b" -> unreadable")?;
             }
+            // memory that did not suffice is the error of the whole
             Err(ParseError::OutOfMemory) => return Err(AllocError),
         }
         out.extend_from_slice(b"\n")?;

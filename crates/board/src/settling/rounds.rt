@@ -12,7 +12,8 @@ use crate::settling::{Known, Settling};
 use crate::tables::Tables;
 use costs::Kind;
 
-// The least candidate below the worst for an unsettled pair, that of the first pair where some tie.
+// The least candidate below the worst for an unsettled pair, that of the first pair where some tie. (Log and candidates
+// apart, as it asks less of them than `state` says.)
 fn least<K: Kind>(log: &Log, best: &[Option<Entry>]) -> Option<Entry>
     requires long { length best.now ≡ 4096 }
     requires costs { CostsBest K.meaning best.now }
