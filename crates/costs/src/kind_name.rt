@@ -13,8 +13,11 @@ use std::fmt;
 // Which kind of cost, where it is known only when the program runs.
 #[derive(Clone, Copy, Debug, PartialEq, Eq, Hash)]
 pub enum KindName {
+    // P
     Points,
+    // S
     Severity,
+    // R
     Rank,
 }
 

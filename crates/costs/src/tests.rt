@@ -9,25 +9,47 @@ use std::process::Abort;
 
 const WORST: u32 = 4_294_967_295;
 
-// The laws at three costs: joining is associative, free changes nothing, and the worst stays the worst.
+// The laws at three costs.
 fn keeps_laws<K: Kind>(rt: &impl Abort, a: u32, b: u32, c: u32) {
+    keeps_order::<K>(rt, a, b, c);
+    keeps_joining::<K>(rt, a, b, c);
+    assert!(rt; K::is_cost(K::free()) && K::is_cost(K::worst()) && K::free() != K::worst());
+}
+
+// Any two compare, no dearer is transitive, two costs each no dearer than the other are equal, and all lie between free
+// and worst.
+fn keeps_order<K: Kind>(rt: &impl Abort, a: u32, b: u32, c: u32) {
+    assert!(rt; K::no_dearer(a, b) || K::no_dearer(b, a));
+    assert!(rt; !(K::no_dearer(a, b) && K::no_dearer(b, c)) || K::no_dearer(a, c));
+    assert!(rt; !(K::no_dearer(a, b) && K::no_dearer(b, a)) || a == b);
+    assert!(rt; K::no_dearer(K::free(), a) && K::no_dearer(a, K::worst()));
+}
+
+// Two costs joined are a cost, joining is associative and keeps no dearer on either side, free changes nothing, and the
+// worst stays the worst.
+fn keeps_joining<K: Kind>(rt: &impl Abort, a: u32, b: u32, c: u32) {
+    assert!(rt; K::is_cost(K::join(a, b)));
     assert_eq!(rt; K::join(K::join(a, b), c), K::join(a, K::join(b, c)));
     assert_eq!(rt; K::join(K::free(), a), a);
     assert_eq!(rt; K::join(a, K::free()), a);
     assert_eq!(rt; K::join(K::worst(), a), K::worst());
     assert_eq!(rt; K::join(a, K::worst()), K::worst());
-    assert!(rt; K::no_dearer(K::free(), a) && K::no_dearer(a, K::worst()));
+    assert!(rt; !K::no_dearer(a, b) || K::no_dearer(K::join(a, c), K::join(b, c)));
+    assert!(rt; !K::no_dearer(a, b) || K::no_dearer(K::join(c, a), K::join(c, b)));
 }
 
 #[test]
 fn points_add_up_to_the_worst(rt: HostRuntime) {
+    assert_eq!(rt; Points::join(4_294_967_290, 3), 4_294_967_293);
     assert_eq!(rt; Points::join(4_294_967_290, 4), 4_294_967_294);
+    assert_eq!(rt; Points::join(4_294_967_294, 1), WORST);
     assert_eq!(rt; Points::join(4_294_967_290, 5), WORST);
     assert_eq!(rt; Points::join(4_294_967_290, 4_294_967_290), WORST);
     assert_eq!(rt; Points::join(WORST, 1), WORST);
     assert_eq!(rt; Points::join(WORST, 0), WORST);
     assert!(rt; Points::is_cost(WORST) && Points::scaled() && Points::letter() == 'P');
     keeps_laws::<Points>(&rt, 4_294_967_290, 4, 1);
+    keeps_laws::<Points>(&rt, 4, 4_294_967_290, WORST);
 }
 
 #[test]
@@ -39,6 +61,7 @@ fn severity_takes_the_larger(rt: HostRuntime) {
         Severity::is_cost(4_293_918_720) && !Severity::scaled() && Severity::letter() == 'S'
     );
     keeps_laws::<Severity>(&rt, 7, 4_294_967_294, 3);
+    keeps_laws::<Severity>(&rt, 3, 7, WORST);
 }
 
 #[test]
@@ -55,6 +78,7 @@ fn rank_adds_breaches_and_seconds(rt: HostRuntime) {
     // both ceilings
     keeps_laws::<Rank>(&rt, 2_097_151, 1_048_575, 1);
     keeps_laws::<Rank>(&rt, 4_292_870_144, 1_048_576, 1_048_576);
+    keeps_laws::<Rank>(&rt, 1, 4_293_918_719, WORST);
 }
 
 #[test]

@@ -8,8 +8,11 @@ use crate::unread::Unread;
 // What a section holds, in the order of the file. Each kind has its code there.
 #[derive(Clone, Copy, PartialEq, Eq, PartialOrd, Ord)]
 pub(crate) enum SectionKind {
+    // 1: rows
     Rows = 1,
+    // 2: lines
     Lines = 2,
+    // 3: a note
     Note = 3,
 }
 

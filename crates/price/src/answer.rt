@@ -18,7 +18,7 @@ pub struct Total {
 // Why a line has no total.
 #[derive(Clone, Copy)]
 pub enum Fault<'a> {
-    // the first number that is no cost of the kind, as it was written
+    // 10: the first number that is no cost of the kind, as it was written
     NoCost(&'a [u8]),
     // the first word that cannot be read, as it was written
     Unreadable(&'a [u8]),

@@ -103,6 +103,10 @@ pub(crate) fn settled_log<K: Kind>(tables: &Tables<K>) -> Log
     ensures settled { Settled K.meaning (held tables.now) (records result) }
 {
     let mut settling = Settling::new(tables);
-    'rounds: while settling.round(tables) {}
+    'rounds: loop {
+        if !settling.round(tables) {
+            break 'rounds;
+        }
+    }
     settling.log
 }
