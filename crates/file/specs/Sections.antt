@@ -4,8 +4,10 @@ use Rattle.file.specs.declared.refusal.FileRefusal.{FileRefusal}
 use Rattle.file.specs.declared.refusal.FileRefusal.TheVariants.{CutShort, WrongSection}
 use Rattle.file.specs.declared.refusal.LoadFault.{LoadFault}
 use Rattle.file.specs.declared.section.Section.{Section}
+use Rattle.file.specs.declared.section.Section.TheVariants.{Rows as SomeRows, Lines as SomeLines, Note as ANote}
 use Rattle.file.specs.declared.section.SectionKind.{SectionKind}
 use Rattle.file.specs.declared.section.SectionKind.TheVariants.{Rows, Lines, Note}
+use Rattle.file.specs.declared.unread.Unread.{Unread}
 use Rattle.file.specs.declared.reader.Reader.{Reader}
 use Rattle.file.specs.Fields.{head_code, head_count}
 use Rattle.file.specs.Parts.{Piece, unread, fault_at}
@@ -40,8 +42,13 @@ pub record Found : Type 0 where
   pub part : Piece
   pub count : ℕ
 
+abbrev pub found : SectionKind → Unread → ℕ → Found
+found kind part count = record { code = section_code kind; part = unread part; count = count }
+
 abbrev pub found_section : Section → Found
-found_section s = record { code = section_code s.kind; part = unread s.part; count = s.count }
+found_section (SomeRows part count) = found Rows part count
+found_section (SomeLines part count) = found Lines part count
+found_section (ANote part count) = found Note part count
 
 abbrev pub found_read : Result Section FileRefusal → Result Found FileRefusal
 found_read (Ok s) = Ok (found_section s)
@@ -69,9 +76,17 @@ last_code (Some kind) = section_code kind
 abbrev pub may_come : Option SectionKind → ℕ → Bool
 may_come last code = nat_lt (last_code last) code && nat_le code note_code
 
+-- the kind of the section that has the code, where it may still come
+abbrev pub admitted : Option SectionKind → ℕ → Result SectionKind FileRefusal
+admitted last code = cond (may_come last code) (kind_of_code code) (Err WrongSection)
+
 -- the last section once one of that code has come
 abbrev pub following : ℕ → Option SectionKind
 following code = cond (code == rows_code) (Some Rows) (cond (code == lines_code) (Some Lines) (Some Note))
+
+-- the last section after one of that code, which is refused where it may not come
+abbrev pub stage_after : Option SectionKind → ℕ → Option SectionKind
+stage_after last code = cond (may_come last code) (following code) last
 
 -- how many bytes the section has whose head comes next
 abbrev pub head_size : List ℕ → ℕ

@@ -78,8 +78,15 @@ fn open<K: Kind>(left: &mut Unread<'_>) -> Result<(Draft<K>, u8), FileRefusal>
     ensures answer { opened_as result ≡ opened K.meaning left.old.bytes.now new }
     ensures rest { OnOk result ((left.new.bytes.now ≡ drop 4 left.old.bytes.now) × (left.new.place ≡ left.old.place + 4)) }
 {
-    let head = left.read().ok_or(FileRefusal::CutShort)?;
-    let header = read_header::<K>(u32::from_be_bytes(head))?;
+    let [letter, sizes, moments, trust, rest @ ..] = left.bytes else {
+        return Err(FileRefusal::CutShort);
+    };
+    let word = u32::from_be_bytes([*letter, *sizes, *moments, *trust]);
+    *left = Unread {
+        bytes: rest,
+        place: left.place + 4,
+    };
+    let header = read_header::<K>(word)?;
     let mut draft = Draft::new();
     draft.size(u32::from(header.modes), u32::from(header.moments))?;
     Ok((draft, header.trust))

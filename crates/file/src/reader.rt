@@ -1,6 +1,6 @@
 // A reader of a file's sections.
 ghost use Rattle.std.specs.Prelude.{◌≡◌};
-ghost use Rattle.file.specs.Sections.{reading, found_read, found_next, section_answer, next_answer, next_after};
+ghost use Rattle.file.specs.Sections.{reading, found_read, found_next, admitted, stage_after, section_answer, next_answer, next_after};
 
 use crate::fields::bits;
 use crate::refusal::{FileRefusal, LoadFault};
@@ -34,19 +34,34 @@ impl<'a> Reader<'a> {
         ensures answer { found_read result ≡ section_answer (reading self.old) }
         ensures after { reading self.new ≡ next_after (reading self.old) }
     {
-        let mut left = self.left;
-        let head = left.read().ok_or(FileRefusal::CutShort)?;
-        let word = u64::from(u16::from_be_bytes(head));
-        let kind = SectionKind::try_from(bits(word, 12, 4) as u16)?;
-        if self.last >= Some(kind) {
-            return Err(FileRefusal::WrongSection);
-        }
-        let count = bits(word, 0, 12) as u16;
-        let part = left.split_off(kind.size(count));
-        *self = Reader {
-            left,
-            last: Some(kind),
+        let [first, second, rest @ ..] = self.left.bytes else {
+            return Err(FileRefusal::CutShort);
         };
-        Ok(Section { kind, part, count })
+        let word = u64::from(u16::from_be_bytes([*first, *second]));
+        let kind = self.admit(bits(word, 12, 4) as u16)?;
+        let count = bits(word, 0, 12) as u16;
+        self.left = Unread {
+            bytes: rest,
+            place: self.left.place + 2,
+        };
+        let part = self.left.split_off(kind.size(count));
+        Ok(kind.section(part, count))
+    }
+
+    // Matches its stage with the code of the section that comes, and goes on to it: the sections come in the order of their
+    // codes, each at most once. (By a match, and not by a conversion and an order of kinds: a rule of the project.)
+    fn admit(&mut self, code: u16) -> Result<SectionKind, FileRefusal>
+        ensures answer { result ≡ admitted self.old.last code }
+        ensures after { self.new.last ≡ stage_after self.old.last code }
+        ensures same { self.new.left ≡ self.old.left }
+    {
+        let kind = match (self.last, code) {
+            (None, 1) => SectionKind::Rows,
+            (None | Some(SectionKind::Rows), 2) => SectionKind::Lines,
+            (None | Some(SectionKind::Rows | SectionKind::Lines), 3) => SectionKind::Note,
+            _ => return Err(FileRefusal::WrongSection),
+        };
+        self.last = Some(kind);
+        Ok(kind)
     }
 }

@@ -1,27 +1,30 @@
 // The sections of a file.
 ghost use Rattle.std.specs.Prelude.{◌≡◌};
-ghost use Rattle.file.specs.Sections.{section_code, kind_of_code, section_size};
+ghost use Rattle.file.specs.Sections.{section_code, section_size, found, found_section};
 
-use crate::refusal::FileRefusal;
 use crate::unread::Unread;
 
 // What a section holds, in the order of the file. Each kind has its code there.
-#[derive(Clone, Copy, PartialEq, Eq, PartialOrd, Ord)]
+#[derive(Clone, Copy)]
 pub(crate) enum SectionKind {
     // 1: rows
-    Rows = 1,
+    Rows,
     // 2: lines
-    Lines = 2,
+    Lines,
     // 3: a note
-    Note = 3,
+    Note,
 }
 
-// A section: its bytes after its head, as far as the file goes, and how many records or bytes its head announces.
+// A section: its bytes after its head, as far as the file goes, and how many records or bytes its head announces. (An enum
+// with both in each case, and so functions that take both: a rule of the project.)
 #[derive(Clone, Copy)]
-pub(crate) struct Section<'a> {
-    pub kind: SectionKind,
-    pub part: Unread<'a>,
-    pub count: u16,
+pub(crate) enum Section<'a> {
+    // 1: rows
+    Rows(Unread<'a>, u16),
+    // 2: lines
+    Lines(Unread<'a>, u16),
+    // 3: a note
+    Note(Unread<'a>, u16),
 }
 
 impl SectionKind {
@@ -34,20 +37,15 @@ impl SectionKind {
             SectionKind::Note => usize::from(count),
         }
     }
-}
 
-impl TryFrom<u16> for SectionKind {
-    type Error = FileRefusal;
-
-    ghost try_from_gives = { λ code r. r ≡ kind_of_code code };
-
-    // The kind that has the code.
-    fn try_from(code: u16) -> Result<SectionKind, FileRefusal> {
-        match code {
-            1 => Ok(SectionKind::Rows),
-            2 => Ok(SectionKind::Lines),
-            3 => Ok(SectionKind::Note),
-            _ => Err(FileRefusal::WrongSection),
+    // The section of this kind that has that part and count.
+    pub fn section<'a>(self, part: Unread<'a>, count: u16) -> Section<'a>
+        ensures { found_section result ≡ found self part.entry count }
+    {
+        match self {
+            SectionKind::Rows => Section::Rows(part, count),
+            SectionKind::Lines => Section::Lines(part, count),
+            SectionKind::Note => Section::Note(part, count),
         }
     }
 }

@@ -1,5 +1,5 @@
 // What is still to be read of a file.
-ghost use Rattle.std.specs.Prelude.{◌≡◌, ◌+◌, ◌^◌, ◌<◌, ◌≤◌, min, length, take, drop, MatchOption};
+ghost use Rattle.std.specs.Prelude.{◌≡◌, ◌+◌, ◌^◌, ◌<◌, min, length, take, drop};
 
 use crate::part::Part;
 
@@ -13,16 +13,6 @@ pub(crate) struct Unread<'a> {
 }
 
 impl<'a> Unread<'a> {
-    // Reads the next N bytes, unless fewer are left.
-    pub fn read<const N: usize>(&mut self) -> Option<[u8; N]>
-        ensures { MatchOption result (length self.old.bytes.now < N) (λ front. (N ≤ length self.old.bytes.now) × (front ≡ take N self.old.bytes.now) × (self.new.bytes.now ≡ drop N self.old.bytes.now) × (self.new.place ≡ self.old.place + N)) }
-    {
-        let (front, rest) = self.bytes.split_first_chunk::<N>()?;
-        self.bytes = rest;
-        self.place += N;
-        Some(*front)
-    }
-
     // Splits off the next bytes, so many or as many as are left.
     pub fn split_off(&mut self, size: usize) -> Unread<'a>
         ensures bytes { result.bytes.now ≡ take size self.old.bytes.now }

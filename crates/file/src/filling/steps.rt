@@ -1,7 +1,8 @@
 // From one section to the next.
 ghost use Rattle.std.specs.Prelude.{◌≡◌, ◌+◌, drop, OnOk};
 ghost use Rattle.board.specs.Held.{draft_content};
-ghost use Rattle.file.specs.Sections.{found_section, reading};
+ghost use Rattle.file.specs.Sections.{found, found_section, reading};
+ghost use Rattle.file.specs.declared.section.SectionKind.TheVariants.{Note};
 ghost use Rattle.file.specs.Records.{told, record_added, record_next, records};
 ghost use Rattle.file.specs.Load.{so_far, section_added, note_taken, from_last};
 
@@ -9,7 +10,7 @@ use crate::filling::Filling;
 use crate::reader::Reader;
 use crate::record::Record;
 use crate::refusal::{FileRefusal, LoadFault};
-use crate::section::{Section, SectionKind};
+use crate::section::Section;
 use crate::unread::Unread;
 use board::{Line, Row};
 use costs::Kind;
@@ -30,19 +31,18 @@ impl<'a, K: Kind> Filling<'a, K> {
         ensures after { told result (so_far self.new) ≡ section_added K.meaning self.old.trust (found_section section.entry) (so_far self.old) }
         ensures same { self.new.trust ≡ self.old.trust }
     {
-        match section.kind {
-            SectionKind::Rows => self.add_records::<Row>(section),
-            SectionKind::Lines => self.add_records::<Line>(section),
-            SectionKind::Note => self.take_note(section),
+        match section {
+            Section::Rows(part, count) => self.add_records::<Row>(part, count),
+            Section::Lines(part, count) => self.add_records::<Line>(part, count),
+            Section::Note(part, count) => self.take_note(part, count),
         }
     }
 
     // Takes the note, which the file has to hold whole.
-    fn take_note(&mut self, section: Section<'a>) -> Result<(), LoadFault>
-        ensures after { told result (so_far self.new) ≡ note_taken (found_section section.entry) (so_far self.old) }
+    fn take_note(&mut self, part: Unread<'a>, count: u16) -> Result<(), LoadFault>
+        ensures after { told result (so_far self.new) ≡ note_taken (found Note part.entry count) (so_far self.old) }
         ensures same { (self.new.trust ≡ self.old.trust) × (self.new.draft ≡ self.old.draft) }
     {
-        let Section { part, count, .. } = section;
         if part.bytes.len() < usize::from(count) {
             return Err(FileRefusal::CutShort.at(part.place));
         }
@@ -51,12 +51,11 @@ impl<'a, K: Kind> Filling<'a, K> {
     }
 
     // Adds a section's records, one after the other.
-    fn add_records<R: Record>(&mut self, section: Section<'a>) -> Result<(), LoadFault>
-        ensures after { told result (draft_content self.new.draft) ≡ records (record_added R.read_as (R.added K.meaning self.old.trust)) section.entry.count section.entry.part.bytes.now section.entry.part.place (draft_content self.old.draft) }
+    fn add_records<R: Record>(&mut self, mut part: Unread<'a>, count: u16) -> Result<(), LoadFault>
+        ensures after { told result (draft_content self.new.draft) ≡ records (record_added R.read_as (R.added K.meaning self.old.trust)) count part.entry.bytes.now part.entry.place (draft_content self.old.draft) }
         ensures same { (self.new.trust ≡ self.old.trust) × (self.new.note ≡ self.old.note) }
     {
-        let mut part = section.part;
-        for _ in 0..section.count {
+        for _ in 0..count {
             let place = part.place;
             self.add_record::<R>(&mut part)
                 .map_err(|refusal| refusal.at(place))?;
@@ -70,8 +69,15 @@ impl<'a, K: Kind> Filling<'a, K> {
         ensures rest { OnOk result ((part.new.bytes.now ≡ drop 8 part.old.bytes.now) × (part.new.place ≡ part.old.place + 8)) }
         ensures same { (self.new.trust ≡ self.old.trust) × (self.new.note ≡ self.old.note) }
     {
-        let word = part.read().ok_or(FileRefusal::CutShort)?;
-        let record = R::read(u64::from_be_bytes(word))?;
+        let [a, b, c, d, e, f, g, h, rest @ ..] = part.bytes else {
+            return Err(FileRefusal::CutShort);
+        };
+        let word = u64::from_be_bytes([*a, *b, *c, *d, *e, *f, *g, *h]);
+        *part = Unread {
+            bytes: rest,
+            place: part.place + 8,
+        };
+        let record = R::read(word)?;
         record.add(&mut self.draft, self.trust)
     }
 }

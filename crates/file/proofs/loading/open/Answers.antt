@@ -24,17 +24,17 @@ returns-in_err-size-clause-answer g c =
     let bs = c.args.left.now.bytes.now in
     let p = err_from_is_err_and c.from_residual-in_err-size.result c.from_residual-in_err-size.ensures.1 in
     let long : 4 ≤ length bs = search rules in
-    let w : c.from_be_bytes.result ≡ word4 bs = search rules in
-    let read : Ok c.in_ok-header.header ≡ header_read g.K.Kind.meaning c.from_be_bytes.result = search rules in
+    let w : c.from_be_bytes-word.result ≡ word4 bs = search rules in
+    let read : Ok c.in_ok-header.header ≡ header_read g.K.Kind.meaning c.from_be_bytes-word.result = search rules in
     let s : Err (Board c.in_err-size.field-0.0) ≡ sized c.in_ok-header.header new = search rules in
-    rw (p.1, p.2) (refused g.K.Kind.meaning bs c.from_be_bytes.result new c.in_ok-header.header long w read (Board c.in_err-size.field-0.0) s)
+    rw (p.1, p.2) (refused g.K.Kind.meaning bs c.from_be_bytes-word.result new c.in_ok-header.header long w read (Board c.in_err-size.field-0.0) s)
 
 pub returns-clause-answer : goal.returns-clause-answer
 unfolding sized
 returns-clause-answer g c =
     let bs = c.args.left.now.bytes.now in
     let long : 4 ≤ length bs = search rules in
-    let w : c.from_be_bytes.result ≡ word4 bs = search rules in
-    let read : Ok c.in_ok-header.header ≡ header_read g.K.Kind.meaning c.from_be_bytes.result = search rules in
+    let w : c.from_be_bytes-word.result ≡ word4 bs = search rules in
+    let read : Ok c.in_ok-header.header ≡ header_read g.K.Kind.meaning c.from_be_bytes-word.result = search rules in
     let s : Ok (draft_content c.size.new.self) ≡ sized c.in_ok-header.header new = search rules in
-    opens g.K.Kind.meaning bs c.from_be_bytes.result new c.in_ok-header.header long w read (draft_content c.size.new.self) s
+    opens g.K.Kind.meaning bs c.from_be_bytes-word.result new c.in_ok-header.header long w read (draft_content c.size.new.self) s
