@@ -4,10 +4,9 @@ ghost use Rattle.std.specs.Option.{ok_or};
 ghost use Rattle.board.specs.Rows.{kind_number, kind_of_number, formed};
 
 // What a row does. The numbers are those of the file format.
-#[derive(Clone, Copy, Default)]
+#[derive(Clone, Copy)]
 pub enum RowKind {
     // 0: changes the mode, alone or with a line of its event
-    #[default]
     Plain = 0,
     // 1: opens a bracket
     Open = 1,
@@ -47,6 +46,15 @@ impl RowKind {
         ensures again { kind_of_number result ≡ Some self }
     {
         self as u8
+    }
+}
+
+impl Default for RowKind {
+    ghost is_default = { λ kind. kind_number kind ≡ 0 };
+
+    // Plain. (By hand: a derived one has no clause.)
+    fn default() -> RowKind {
+        RowKind::Plain
     }
 }
 
