@@ -1,5 +1,5 @@
 -- What `least` prints, by what load, settle, cost and path answer.
-use Rattle.std.specs.Prelude.{ℕ, cond, ◌==◌, List, [], ◌++◌, take, replicate, Some, None, Ok, Err, codes, decimal, Option, Result, slice_index_or}
+use Rattle.std.specs.Prelude.{◌≡◌, ℕ, cond, ◌==◌, List, [], ◌++◌, take, replicate, Some, None, Ok, Err, codes, decimal, Option, Result, slice_index_or}
 use Rattle.std.proofs.Math.Utf8.{encode}
 use Rattle.std.specs.List.{flat_map, slice_get}
 use Rattle.costs.specs.Meaning.{Meaning}
@@ -87,3 +87,11 @@ lines_under m bytes = loaded_lines m (load_answer m bytes) (load_after m bytes)
 -- What `least` prints: the file under the kind of its first byte's letter; an empty one under points (80 is P).
 abbrev pub least_lines : List ℕ → List ℕ
 least_lines bytes = lines_under (meaning_under (slice_index_or bytes 0 80)) bytes
+
+-- how many bytes of its input the program `least` reads
+abbrev pub longest : ℕ
+longest = 8192
+
+-- That limit never shows: what is printed of a file's first bytes, so many, is what is printed of all of it.
+abbrev pub LimitNeverShows : Type 0
+LimitNeverShows = (bytes : List ℕ) → least_lines (take longest bytes) ≡ least_lines bytes
