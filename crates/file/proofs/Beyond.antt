@@ -67,6 +67,7 @@ module _ (add : Content → ℕ → Result Content FileRefusal) where
   unfolding records
   turn n bs place c o long e = let l = le-ltb (length bs) 8 long in rw (l, e)
 
+  -- refused alike, by what is made of the first record
   after : (n : ℕ) (bs ys : List ℕ) (place : ℕ) (c : Content) (o : Result Content FileRefusal) → 8 ≤ length bs → add c (word8 bs) ≡ o → ((d : Content) → o ≡ Ok d → Alike (records add n (drop 8 bs ++ ys) (place + 8) d) (records add n (drop 8 bs) (place + 8) d)) → Alike (records add (suc n) (bs ++ ys) place c) (records add (suc n) bs place c)
   after n bs ys place c (Err e) long is then =
       record {
