@@ -16,7 +16,8 @@ use Rattle.board.specs.Arrivals.{named, starts_at, leads}
 use Rattle.board.specs.Paths.{stack, Complete}
 use Rattle.board.specs.Packing.{unpacked}
 
--- the brackets open after one effect, the last one first: at most 4,096, and an end row only where none is open
+-- the brackets open after one effect, the last one first: at most 4,096 (else 18); what closes closes the last one, and an
+-- end row comes only where none is open (else 17)
 abbrev pub bracketed : Effect → List ℕ → Result (List ℕ) Refusal
 bracketed Quiet st = Ok st
 bracketed (Opens n) st = cond (nat_lt (length st) 4096) (Ok (n ∷ st)) (Err TooDeep)
@@ -42,7 +43,8 @@ abbrev pub arrived : Meaning → ℕ → Arrival → Result (List ℕ) Refusal �
 arrived m k a (Ok st) = Ok (record { place = a.to; unclosed = st; ended = is_end a.effect; cost = m.join k a.cost })
 arrived m k a (Err e) = Err e
 
--- one move that names something: it must start where the last one ended, and none follows an end row
+-- one move, by what it names: 15 where that is nothing; then 16 where an end row came before or it does not start at the
+-- place reached; then its brackets
 abbrev pub take_named : Meaning → ℕ → Progress → Option Named → Result Progress Refusal
 take_named m moments w None = Err BadMove
 take_named m moments w (Some n) =

@@ -69,7 +69,8 @@ end_moment? moments t = suc t == moments
 abbrev pub EndMoment : ℕ → ℕ → Type 0
 EndMoment moments t = end_moment? moments t ≡ true
 
--- Of moments t before and u after, at cost k: a row without an event takes no line and keeps the moment.
+-- Of moments t before and u after, at cost k: a row that is no plain row with an event takes no line, keeps the moment, any
+-- of the board's, and costs its own cost; an end row stands at the last moment only.
 pub record Untimed (c : Content) (r : Row) (line : Option ℕ) (t u k : ℕ) : Type 0 where
   pub alone : line ≡ None
   pub no_event : r.kind ≡ Plain → r.label ≡ 0

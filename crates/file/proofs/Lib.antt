@@ -7,6 +7,7 @@ pub mod Sequences
 pub mod Limits
 pub mod Heads
 pub mod Tails
+pub mod Beyond
 pub mod Exactly
 pub mod Sounding
 pub mod Promising

@@ -15,13 +15,15 @@ use Rattle.file.specs.declared.refusal.FileRefusal.TheVariants.{WrongLetter, Not
 abbrev pub field : ℕ → ℕ → ℕ → ℕ
 field word below width = word / 2 ^ below % 2 ^ width
 
--- the first 2, 4 or 8 bytes of a list as one number
+-- the first 2 bytes of a list as one number, the first the most significant
 abbrev pub word2 : List ℕ → ℕ
 word2 bs = slice_index bs 0 * 256 + slice_index bs 1
 
+-- the first 4
 abbrev pub word4 : List ℕ → ℕ
 word4 bs = ((slice_index bs 0 * 256 + slice_index bs 1) * 256 + slice_index bs 2) * 256 + slice_index bs 3
 
+-- the first 8
 abbrev pub word8 : List ℕ → ℕ
 word8 bs = word4 bs * 4294967296 + (((slice_index bs 4 * 256 + slice_index bs 5) * 256 + slice_index bs 6) * 256 + slice_index bs 7)
 
@@ -29,21 +31,22 @@ word8 bs = word4 bs * 4294967296 + (((slice_index bs 4 * 256 + slice_index bs 5)
 abbrev pub header_fields : ℕ → Header
 header_fields w = record { modes = field w 17 7; moments = field w 10 7; trust = field w 0 8 }
 
--- a header of the kind, or why it is none
+-- what a header of the kind says, or why it is none: first the letter (21), then the zero bits (22), then trust (23)
 abbrev pub header_read : Meaning → ℕ → Result Header FileRefusal
 header_read m w =
     cond (field w 24 8 == m.letter)
     (cond (field w 8 2 == 0) (cond (m.scaled || field w 0 8 == 16) (Ok (header_fields w)) (Err WrongTrust)) (Err NotZero))
     (Err WrongLetter)
 
--- A section head: its code, and its count.
+-- A section head: its code,
 abbrev pub head_code : List ℕ → ℕ
 head_code bs = field (word2 bs) 12 4
 
+-- and its count
 abbrev pub head_count : List ℕ → ℕ
 head_count bs = field (word2 bs) 0 12
 
--- the kind of row that has the number, a number of two bits
+-- the kind of row that has the number; a number of two bits always has one, so `End` never stands in for it
 abbrev pub kind_at : ℕ → RowKind
 kind_at n = unwrap_or (kind_of_number n) End
 
@@ -52,6 +55,7 @@ abbrev pub row_fields : ℕ → Row
 row_fields w =
     record { kind = kind_at (field w 62 2); from = field w 56 6; to = field w 50 6; label = field w 42 8; action = field w 34 8; cost = field w 0 32 }
 
+-- the row, or 22 where a zero bit is 1
 abbrev pub row_read : ℕ → Result Row FileRefusal
 row_read w = cond (field w 32 2 == 0) (Ok (row_fields w)) (Err NotZero)
 
@@ -59,5 +63,6 @@ row_read w = cond (field w 32 2 == 0) (Ok (row_fields w)) (Err NotZero)
 abbrev pub line_fields : ℕ → Line
 line_fields w = record { from = field w 58 6; to = field w 52 6; event = field w 44 8; cost = field w 0 32 }
 
+-- the line, or 22 where a zero bit is 1
 abbrev pub line_read : ℕ → Result Line FileRefusal
 line_read w = cond (field w 32 12 == 0) (Ok (line_fields w)) (Err NotZero)

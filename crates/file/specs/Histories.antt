@@ -14,11 +14,12 @@ use Rattle.file.specs.States.{State, draft, settled, state_after}
 use Rattle.file.specs.Told.{Told, step_answer, step_buffer}
 use Rattle.file.specs.Promise.{MainPromise}
 
--- the state of a board, and the records it holds
+-- the state of a board
 abbrev pub state_of : {K : Type 0} {k : Ghosts K} → Board K k → State
 state_of (board.Drafted d) = draft (draft_content d)
 state_of (board.Settled s) = settled (settled_content s)
 
+-- the records it holds; a draft holds none
 abbrev pub records_of : {K : Type 0} {k : Ghosts K} → Board K k → List Record
 records_of (board.Drafted d) = []
 records_of (board.Settled s) = settled_records s

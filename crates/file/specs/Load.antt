@@ -24,6 +24,7 @@ pub record Loaded : Type 0 where
   pub content : Content
   pub note : Piece
 
+-- this content and this note
 abbrev pub loaded_as : Content → Piece → Loaded
 loaded_as c n = record { content = c; note = n }
 
@@ -31,17 +32,19 @@ loaded_as c n = record { content = c; note = n }
 abbrev pub so_far : {K : Type 0} {k : Ghosts K} → Filling K k → Loaded
 so_far f = loaded_as (draft_content f.draft) (piece f.note)
 
+-- the same note beside this content
 abbrev pub with_content : Loaded → Content → Result Loaded LoadFault
 with_content x c = Ok (loaded_as c x.note)
 
+-- the same content beside this note
 abbrev pub with_note : Loaded → Piece → Result Loaded LoadFault
 with_note x n = Ok (loaded_as x.content n)
 
--- a note that the file holds whole
+-- a note that the file holds whole; 20 where it is cut short
 abbrev pub note_taken : Found → Loaded → Result Loaded LoadFault
 note_taken f x = cond (nat_lt (length f.part.bytes) f.count) (Err (fault_at CutShort f.part.place)) (with_note x f.part)
 
--- one section: rows and lines go to the board
+-- one section: rows and lines go to the board, a note is kept
 abbrev pub section_added : Meaning → ℕ → Found → Loaded → Result Loaded LoadFault
 section_added m trust f x =
     cond (f.code == rows_code) (go_on (records (row_record m) f.count f.part.bytes f.part.place x.content) (with_content x))
@@ -56,19 +59,21 @@ comes code p = nat_le 2 (length p.bytes) && head_code p.bytes == code
 abbrev pub in_turn : Meaning → ℕ → ℕ → (Piece → Loaded → Result Loaded LoadFault) → Piece → Loaded → Result Loaded LoadFault
 in_turn m trust code next p x = cond (comes code p) (go_on (section_added m trust (next_section p) x) (next (past p))) (next p x)
 
--- The file's end: one byte more is a section head cut short, and any other head is one that may not come.
+-- The file's end: one byte more is a section head cut short (20), and any head is one that may not come (24).
 unfoldable pub at_end : Piece → Loaded → Result Loaded LoadFault
 at_end p x =
     cond (length p.bytes == 0) (Ok x)
     (cond (nat_lt (length p.bytes) 2) (Err (fault_at CutShort p.place)) (Err (fault_at WrongSection p.place)))
 
--- The sections: rows, lines, note, each at most once and in this order.
+-- The sections: rows, lines, note, each at most once and in this order. After the lines a note may come, and then nothing;
 unfoldable pub from_note : Meaning → ℕ → Piece → Loaded → Result Loaded LoadFault
 from_note m trust = in_turn m trust note_code at_end
 
+-- after the rows lines may come, and then what may come after them;
 unfoldable pub from_lines : Meaning → ℕ → Piece → Loaded → Result Loaded LoadFault
 from_lines m trust = in_turn m trust lines_code (from_note m trust)
 
+-- at first rows may come, and then what may come after them
 unfoldable pub from_rows : Meaning → ℕ → Piece → Loaded → Result Loaded LoadFault
 from_rows m trust = in_turn m trust rows_code (from_lines m trust)
 
@@ -79,7 +84,7 @@ from_last m trust (Some Rows) = from_lines m trust
 from_last m trust (Some Lines) = from_note m trust
 from_last m trust (Some Note) = at_end
 
--- the board sized as the header says
+-- the board sized as the header says, or the board's refusal
 unfoldable pub sized : Header → Content → Result Content FileRefusal
 sized h c = called (size_fault c h.modes h.moments) (size_after c h.modes h.moments)
 
@@ -87,6 +92,7 @@ sized h c = called (size_fault c h.modes h.moments) (size_after c h.modes h.mome
 abbrev pub no_note : List ℕ → Piece
 no_note bs = record { bytes = []; place = length bs }
 
+-- what stands behind the header
 abbrev pub after_header : List ℕ → Piece
 after_header bs = record { bytes = drop 4 bs; place = 4 }
 
@@ -95,17 +101,18 @@ pub record Opened : Type 0 where
   pub content : Content
   pub trust : ℕ
 
--- the header's part
+-- the header's part: 20 below 4 bytes, then what the header itself gives, then the size
 abbrev pub opened : Meaning → List ℕ → Content → Result Opened FileRefusal
 opened m bs c =
     cond (nat_lt (length bs) 4) (Err CutShort)
     (go_on (header_read m (word4 bs)) (λ h. go_on (sized h c) (λ d. Ok (record { content = d; trust = h.trust }))))
 
+-- what the code's answer stands for
 abbrev pub opened_as : {K : Type 0} {k : Ghosts K} → Result (Draft K k × ℕ) FileRefusal → Result Opened FileRefusal
 opened_as (Ok p) = Ok (record { content = draft_content p.0; trust = p.1 })
 opened_as (Err e) = Err e
 
--- the header's part, and then the sections
+-- the header's part, whose place is 0, and then the sections
 abbrev pub filled : Meaning → List ℕ → Content → Result Loaded LoadFault
 filled m bs c =
     go_on (at_place (opened m bs c) 0) (λ o. from_rows m o.trust (after_header bs) (loaded_as o.content (no_note bs)))
@@ -114,6 +121,7 @@ filled m bs c =
 abbrev pub loaded : Meaning → List ℕ → Result Loaded LoadFault
 loaded m bs = filled m bs new
 
+-- what the code's answer stands for
 abbrev pub read_as : {K : Type 0} {k : Ghosts K} → Result (Draft K k × Part) LoadFault → Result Loaded LoadFault
 read_as (Ok p) = Ok (loaded_as (draft_content p.0) (piece p.1))
 read_as (Err e) = Err e
@@ -128,9 +136,10 @@ abbrev pub content_left : Result Loaded LoadFault → Content
 content_left (Ok x) = x.content
 content_left (Err e) = new
 
--- What a load answers, and the content it leaves.
+-- What a load answers: the note, or the fault.
 abbrev pub load_answer : Meaning → List ℕ → Result Piece LoadFault
 load_answer m bs = note_answer (loaded m bs)
 
+-- The content it leaves: what the file says, or a new board's where it is declined.
 abbrev pub load_after : Meaning → List ℕ → Content
 load_after m bs = content_left (loaded m bs)

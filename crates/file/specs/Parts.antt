@@ -10,9 +10,11 @@ pub record Piece : Type 0 where
   pub bytes : List ℕ
   pub place : ℕ
 
+-- the bytes and the place of a part that is handed on
 abbrev pub piece : Part → Piece
 piece p = record { bytes = p.bytes.now; place = p.place }
 
+-- those of what is still to be read
 abbrev pub unread : Unread → Piece
 unread u = record { bytes = u.bytes.now; place = u.place }
 

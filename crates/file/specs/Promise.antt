@@ -16,13 +16,15 @@ use Rattle.file.specs.declared.call.Call.{Call}
 use Rattle.file.specs.States.{settled, state_after}
 use Rattle.file.specs.Easing.{AllEase}
 
--- what a settled board with content c answers: cost, and path into a buffer
+-- what a settled board with content c answers to cost,
 abbrev pub cost_told : Meaning → Content → Result (ℕ × ℕ) Refusal
 cost_told m c = cost_answer m c (settled_log m c)
 
+-- to path into that buffer,
 abbrev pub path_told : Meaning → Content → List ℕ → Result ℕ Refusal
 path_told m c buffer = path_answer m c (settled_log m c) buffer
 
+-- and what path leaves of it
 abbrev pub path_left : Meaning → Content → List ℕ → List ℕ
 path_left m c buffer = path_after m c (settled_log m c) buffer
 
@@ -31,6 +33,7 @@ abbrev pub cost_or_worst : Meaning → Result (ℕ × ℕ) Refusal → ℕ
 cost_or_worst m (Ok a) = a.0
 cost_or_worst m (Err e) = m.worst
 
+-- that of a settled board with content c
 abbrev pub answered_cost : Meaning → Content → ℕ
 answered_cost m c = cost_or_worst m (cost_told m c)
 

@@ -33,9 +33,11 @@ abbrev pub called : Option Refusal → Content → Result Content FileRefusal
 called None after = Ok after
 called (Some e) after = Err (Board e)
 
+-- the board with the row added, or the board's refusal
 unfoldable pub row_added : Meaning → Content → Row → Result Content FileRefusal
 row_added m c r = called (row_fault m c r) (row_after m c r)
 
+-- the board with the line added, or the board's refusal
 unfoldable pub line_added : Meaning → Content → Line → Result Content FileRefusal
 line_added m c l = called (line_fault m c l) (line_after m c l)
 
@@ -43,18 +45,19 @@ line_added m c l = called (line_fault m c l) (line_after m c l)
 abbrev pub trusted_line : Meaning → ℕ → Line → Line
 trusted_line m trust l = line_at_cost (trusted m trust l.cost) l
 
--- a record that is read, and then put on the board
+-- a record that is read, and then put on the board: the file's refusal comes before the board's
 abbrev pub record_added : {A : Type 0} → (ℕ → Result A FileRefusal) → (Content → A → Result Content FileRefusal) → Content → ℕ → Result Content FileRefusal
 record_added read add c w = go_on (read w) (add c)
 
--- the row or the line that a record is, put on the board
+-- the row that a record is, put on the board
 abbrev pub row_record : Meaning → Content → ℕ → Result Content FileRefusal
 row_record m = record_added row_read (row_added m)
 
+-- the line that a record is, put on the board at its cost as trust has it
 abbrev pub line_record : Meaning → ℕ → Content → ℕ → Result Content FileRefusal
 line_record m trust = record_added line_read (λ c l. line_added m c (trusted_line m trust l))
 
--- the record at the front of bs, unless they end before it does
+-- the record at the front of bs, unless they end before it does (20)
 abbrev pub record_next : (Content → ℕ → Result Content FileRefusal) → List ℕ → Content → Result Content FileRefusal
 record_next add bs c = cond (nat_lt (length bs) 8) (Err CutShort) (add c (word8 bs))
 

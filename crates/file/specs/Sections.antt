@@ -22,6 +22,7 @@ lines_code = 2
 abbrev pub note_code : ℕ
 note_code = 3
 
+-- the code of each kind of section
 abbrev pub section_code : SectionKind → ℕ
 section_code Rows = rows_code
 section_code Lines = lines_code
@@ -42,9 +43,11 @@ pub record Found : Type 0 where
   pub part : Piece
   pub count : ℕ
 
+-- the section of that kind, part and count
 abbrev pub found : SectionKind → Unread → ℕ → Found
 found kind part count = record { code = section_code kind; part = unread part; count = count }
 
+-- what the code's section stands for, and the same of answers
 abbrev pub found_section : Section → Found
 found_section (SomeRows part count) = found Rows part count
 found_section (SomeLines part count) = found Lines part count
@@ -59,11 +62,12 @@ found_next (Ok None) = Ok None
 found_next (Ok (Some s)) = Ok (Some (found_section s))
 found_next (Err e) = Err e
 
--- what is left of the file, and the last section that came
+-- How far a file is read: what is left of it, and the kind of the last section that came. (No reading of a table.)
 pub record Reading : Type 0 where
   pub left : Piece
   pub last : Option SectionKind
 
+-- how far a reader has come
 abbrev pub reading : Reader → Reading
 reading r = record { left = unread r.left; last = r.last }
 
@@ -125,7 +129,7 @@ next_answer r =
     (cond (nat_lt (length r.left.bytes) 2) (Err (fault_at CutShort r.left.place))
     (cond (in_order r) (Ok (Some (next_section r.left))) (Err (fault_at WrongSection r.left.place))))
 
--- where no section is answered, the reader stays as it is
+-- how far the file is read then; where no section is answered, as far as before
 abbrev pub next_after : Reading → Reading
 next_after r =
     cond (nat_lt (length r.left.bytes) 2) r

@@ -13,6 +13,7 @@ pub data State : Type 0 where
   draft : Content → State
   settled : Content → State
 
+-- its content
 abbrev pub content : State → Content
 content (draft c) = c
 content (settled c) = c

@@ -20,19 +20,32 @@ use Rattle.file.specs.States.{State, draft, settled}
 
 -- an answer, a note told by its bytes and its place
 pub data Told : Type 0 where
+  -- the board does not take the call at this time
   not_taken : Told
+  -- nothing, or 1 or 2
   sized : Result (Unit {0}) Refusal → Told
+  -- the new row's or line's number, or 3 to 8 or 10
   added : Result ℕ Refusal → Told
+  -- nothing, or 9 or 10
   repriced : Result (Unit {0}) Refusal → Told
+  -- how many lines were dropped
   cleared : ℕ → Told
+  -- the note, or 2 to 8, 10 or 20 to 24, and where
   loaded : Result Piece LoadFault → Told
+  -- settling cannot refuse
   settles : Told
+  -- the cost and the number of moves, or 11
   costs : Result (ℕ × ℕ) Refusal → Told
+  -- how many moves were written, or 11 or 12
   writes : Result ℕ Refusal → Told
+  -- the recorded cost of two places, or 13 or 14
   between : Result ℕ Refusal → Told
+  -- the cost of the list, or 15 to 19 and where
   checked : Result ℕ Fault → Told
+  -- reopening cannot refuse
   reopened : Told
 
+-- what an answer of the code tells
 abbrev pub heard : Answer → Told
 heard answer.NotTaken = not_taken
 heard (answer.Sized r) = sized r

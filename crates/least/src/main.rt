@@ -4,7 +4,8 @@
 use report::least;
 use std::io::{Read, Write};
 
-// The largest part of the input that is read; no file that loads is longer.
+// The largest part of the input that is read. No file that loads is longer, and what stands beyond never shows (`limit` in the
+// contract of `least`).
 const LONGEST: u64 = 8192;
 
 // From input to output. (Each program has these lines; a library of its own for them would be no plainer.)

@@ -1,5 +1,5 @@
 -- What `least` prints, by what load, settle, cost and path answer.
-use Rattle.std.specs.Prelude.{ℕ, cond, ◌==◌, List, [], ◌++◌, take, replicate, Some, None, Ok, Err, codes, decimal, Option, Result, slice_index_or}
+use Rattle.std.specs.Prelude.{◌≡◌, ℕ, cond, ◌==◌, List, [], ◌++◌, take, replicate, Some, None, Ok, Err, codes, decimal, Option, Result, slice_index_or}
 use Rattle.std.proofs.Math.Utf8.{encode}
 use Rattle.std.specs.List.{flat_map, slice_get}
 use Rattle.costs.specs.Meaning.{Meaning}
@@ -34,11 +34,12 @@ no_line e = refusal_text e ++ codes "\n"
 abbrev pub cost_line : ℕ → ℕ → ℕ → List ℕ
 cost_line letter cost moves = encode letter ++ (codes " " ++ (decimal cost ++ (codes " " ++ (decimal moves ++ codes "\n"))))
 
--- a row's action; a row that is not there has none
+-- a row's action; 0 where there is no row, which is so of no move that path writes
 abbrev pub action_of : Option Row → ℕ
 action_of (Some r) = r.action
 action_of None = 0
 
+-- a move's line in digits, or `-`
 abbrev pub line_word : Option ℕ → List ℕ
 line_word (Some j) = decimal j
 line_word None = codes "-"
@@ -47,14 +48,16 @@ line_word None = codes "-"
 abbrev pub move_line : Content → Move → List ℕ
 move_line c v = decimal v.row ++ (codes " " ++ (line_word v.line ++ (codes " " ++ (decimal (action_of (slice_get c.rows v.row)) ++ codes "\n"))))
 
+-- the line of a move that was taken apart; nothing where the number packs none
 abbrev pub unpacked_line : Content → Option Move → List ℕ
 unpacked_line c (Some v) = move_line c v
 unpacked_line c None = []
 
+-- the line of a packed move
 abbrev pub packed_line : Content → ℕ → List ℕ
 packed_line c n = unpacked_line c (unpacked n)
 
--- the moves that path wrote
+-- the first line, and those of the moves that path wrote; where path is declined, its refusal alone
 abbrev pub moves_lines : Content → Result ℕ Refusal → List ℕ → List ℕ → List ℕ
 moves_lines c (Ok n) buffer first = first ++ flat_map (packed_line c) (take n buffer)
 moves_lines c (Err e) buffer first = no_line e
@@ -68,9 +71,11 @@ abbrev pub reading_lines : Meaning → Content → List Record → Result (ℕ �
 reading_lines m c log (Ok a) = moves_lines c (path_answer m c log empty_buffer) (path_after m c log empty_buffer) (cost_line m.letter a.0 a.1)
 reading_lines m c log (Err e) = no_line e
 
+-- the same, by its content and its records
 abbrev pub settled_lines : Meaning → Content → List Record → List ℕ
 settled_lines m c log = reading_lines m c log (cost_answer m c log)
 
+-- what is printed of a load's answer and the content it left
 abbrev pub loaded_lines : Meaning → Result Piece LoadFault → Content → List ℕ
 loaded_lines m (Ok note) c = settled_lines m c (settled_log m c)
 loaded_lines m (Err e) c = bad_line e
@@ -79,6 +84,14 @@ loaded_lines m (Err e) c = bad_line e
 abbrev pub lines_under : Meaning → List ℕ → List ℕ
 lines_under m bytes = loaded_lines m (load_answer m bytes) (load_after m bytes)
 
--- What `least` prints: the file under the kind of its first byte's letter.
+-- What `least` prints: the file under the kind of its first byte's letter; an empty one under points (80 is P).
 abbrev pub least_lines : List ℕ → List ℕ
 least_lines bytes = lines_under (meaning_under (slice_index_or bytes 0 80)) bytes
+
+-- how many bytes of its input the program `least` reads
+abbrev pub longest : ℕ
+longest = 8192
+
+-- That limit never shows: what is printed of a file's first bytes, so many, is what is printed of all of it.
+abbrev pub LimitNeverShows : Type 0
+LimitNeverShows = (bytes : List ℕ) → least_lines (take longest bytes) ≡ least_lines bytes

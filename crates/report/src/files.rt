@@ -3,7 +3,7 @@ ghost use Rattle.std.specs.Prelude.{◌≡◌, ◌++◌, IfOk, OnOk, slice_index
 ghost use Rattle.std.specs.List.{flat_map};
 ghost use Rattle.costs.specs.Names.{meaning_of};
 ghost use Rattle.board.specs.Boards.{settled_content, settled_records};
-ghost use Rattle.report.specs.Least.{meaning_under, packed_line, settled_lines, lines_under, least_lines};
+ghost use Rattle.report.specs.Least.{meaning_under, packed_line, settled_lines, lines_under, least_lines, LimitNeverShows};
 ghost use Rattle.report.specs.Worked.{WorkedExamples};
 
 use board::{Draft, Move, Settled};
@@ -82,9 +82,10 @@ fn kind_of(bytes: &[u8]) -> KindName
 
 // What `least` prints of a file's bytes: under the kind of its first letter, or under points. (A kind is a type: a trait
 // whose method is run under each would be no plainer than three arms.)
-#[tactic(auto, using(crate::proofs::Working::worked))]
+#[tactic(auto, using(crate::proofs::Working::worked, crate::proofs::Limit::limit_never_shows))]
 pub fn least(heap: Global, bytes: &[u8]) -> Result<Vec<u8>, AllocError>
     ensures lines { IfOk result (λ v. v.items ≡ least_lines bytes.now) }
+    ensures limit { LimitNeverShows }
     ensures examples { WorkedExamples }
 {
     let lines = match kind_of(bytes) {
