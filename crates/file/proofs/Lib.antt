@@ -8,6 +8,7 @@ pub mod Limits
 pub mod Heads
 pub mod Tails
 pub mod Exactly
+pub mod Longest
 pub mod Sounding
 pub mod Promising
 pub mod Following
