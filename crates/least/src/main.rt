@@ -7,6 +7,9 @@ use std::io::{Read, Write};
 // The largest part of the input that is read; no file that loads is longer.
 const LONGEST: u64 = 8192;
 
+// A file that loads has at most 6,153 bytes; two bytes more show whether a longer one goes on with a section's head.
+const _: () = prove!(LONGEST >= 6_155);
+
 // From input to output. (Each program has these lines; a library of its own for them would be no plainer.)
 fn run(rt: &HostRuntime) -> anyhow::Result<()> {
     let mut input = Vec::new(rt.alloc());
