@@ -49,11 +49,11 @@ pub record Tail (m : Meaning) (trust : ℕ) (rows : Option (List Row)) (lines : 
   pub noted : y.note ≡ put_note note (p.place + length p.bytes) x.note
 
 -- the bytes of a section's body
-each_length : {A : Type 0} (f : A → List ℕ) → ((x : A) → length (f x) ≡ 8) → (xs : List A) → length (each_written f xs) ≡ 8 * length xs
+pub each_length : {A : Type 0} (f : A → List ℕ) → ((x : A) → length (f x) ≡ 8) → (xs : List A) → length (each_written f xs) ≡ 8 * length xs
 each_length f h [] = refl
 each_length f h (x ∷ xs) = length-append (f x) (each_written f xs) ∙ omega (arith, h x, each_length f h xs)
 
-bytes_written : (bs : List ℕ) → each_written one_byte bs ≡ bs
+pub bytes_written : (bs : List ℕ) → each_written one_byte bs ≡ bs
 bytes_written [] = refl
 bytes_written (b ∷ bs) = ap (λ (xs : List ℕ). b ∷ xs) (bytes_written bs)
 

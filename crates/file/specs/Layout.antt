@@ -137,6 +137,11 @@ pub record KeepsLimits (m : Meaning) (d : Description) : Type 0 where
   pub note_fits : length (held_in d.note) < 4096
   pub note_bytes : AllByRecursion Byte (held_in d.note)
 
+-- the most bytes of a file within its limits: a header of 4, a head of 2 and 128 times 8 of rows, as many of lines, and a
+-- head of 2 and 4,095 of a note
+abbrev pub longest : ℕ
+longest = 6153
+
 -- the board's content that a file describes: the costs of its lines as trust has them
 abbrev pub content_of : Meaning → Description → Content
 content_of m d =

@@ -1,11 +1,11 @@
 // Loading a file into a draft.
-ghost use Rattle.std.specs.Prelude.{◌≡◌, ◌+◌, drop, OnOk};
+ghost use Rattle.std.specs.Prelude.{◌≡◌, ◌+◌, ◌≤◌, length, drop, IfOk, OnOk};
 ghost use Rattle.costs.specs.Meaning.{Meaning};
 ghost use Rattle.board.specs.Content.{Content, Sound, new};
 ghost use Rattle.board.specs.Held.{draft_content};
 ghost use Rattle.file.specs.Examples.{LayoutExamples};
 ghost use Rattle.file.specs.Parts.{answered};
-ghost use Rattle.file.specs.Layout.{LoadsExactly};
+ghost use Rattle.file.specs.Layout.{LoadsExactly, longest};
 ghost use Rattle.file.specs.Load.{read_as, opened_as, opened, loaded, load_answer, load_after};
 
 use crate::fields::read_header;
@@ -29,6 +29,7 @@ pub trait Load {
         ensures after { content self.new ≡ load_after costs bytes.now }
         ensures sound { Sound costs (content self.new) }
         ensures exact { LoadsExactly costs bytes.now (answered result) (content self.new) }
+        ensures size { IfOk result (λ _. length bytes.now ≤ longest) }
         ensures examples { LayoutExamples };
 }
 

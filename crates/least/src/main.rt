@@ -4,9 +4,11 @@
 use report::least;
 use std::io::{Read, Write};
 
-// The largest part of the input that is read. No file that loads is longer, and what stands beyond never shows (`limit` in the
-// contract of `least`).
+// The largest part of the input that is read. What stands beyond never shows: so says `limit` in the contract of `least`, of
+// this number.
 const LONGEST: u64 = 8192;
+
+const _: () = prove!(LONGEST == 8192);
 
 // From input to output. (Each program has these lines; a library of its own for them would be no plainer.)
 fn run(rt: &HostRuntime) -> anyhow::Result<()> {

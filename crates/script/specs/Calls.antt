@@ -1,8 +1,10 @@
 -- The calls that a script makes.
-use Rattle.std.specs.Prelude.{ℕ, List, vec_items}
+use Rattle.std.specs.Prelude.{ℕ, List, Some, None, Option, vec_items}
 use Rattle.costs.specs.declared.kind_name.KindName.{KindName}
 use Rattle.board.specs.declared.row.Row.{Row}
 use Rattle.board.specs.declared.row.Line.{Line}
+use Rattle.file.specs.declared.call.Call.{Call as BoardCall}
+use Rattle.file.specs.declared.call.Call.TheVariants as board
 use Rattle.script.specs.declared.command.Command.{Command}
 use Rattle.script.specs.declared.command.Command.TheVariants.{Kind, Size, AddRow, AddLine, RepriceRow, RepriceLine, ClearLines, Load, Settle, Reopen, Cost, Path, Between, Check}
 
@@ -46,3 +48,25 @@ command_of Cost = cost
 command_of (Path n) = path n
 command_of (Between s q) = between s q
 command_of (Check xs) = check (vec_items xs)
+
+-- a call on a board, as a script's; the length of path's buffer, which goes beside that call, is told as 0
+abbrev pub made_of : BoardCall → Call
+made_of (board.Size m t) = size m t
+made_of (board.AddRow r) = row r
+made_of (board.AddLine l) = line l
+made_of (board.RepriceRow i c) = reprice_row i c
+made_of (board.RepriceLine i c) = reprice_line i c
+made_of board.ClearLines = clear
+made_of (board.Load bs) = load bs.now
+made_of board.Settle = settle
+made_of board.Cost = cost
+made_of board.Path = path 0
+made_of (board.Between s q) = between s q
+made_of (board.Check xs) = check xs.now
+made_of board.Reopen = reopen
+
+-- the call on a board that a script's call makes; naming a kind makes none
+abbrev pub on_board : Call → Option Call
+on_board (kind k) = None
+on_board (path n) = Some (path 0)
+on_board c = Some c

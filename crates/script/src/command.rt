@@ -1,4 +1,8 @@
 // The calls that a script makes.
+ghost use Rattle.std.specs.Prelude.{◌≡◌};
+ghost use Rattle.std.specs.Option.{option_map};
+ghost use Rattle.script.specs.Calls.{command_of, made_of, on_board};
+
 use board::{Line, Row};
 use costs::KindName;
 use file::Call;
@@ -31,7 +35,9 @@ pub enum Command {
 
 impl Command {
     // The call that it makes on a board; naming a kind makes none.
-    pub(crate) fn call(&self) -> Option<Call<'_>> {
+    pub(crate) fn call(&self) -> Option<Call<'_>>
+        ensures { option_map made_of result ≡ on_board (command_of self.now) }
+    {
         let call = match self {
             Command::Kind(_) => return None,
             Command::Size(modes, moments) => Call::Size(*modes, *moments),

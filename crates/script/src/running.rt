@@ -1,4 +1,7 @@
 // Running a script, line by line.
+ghost use Rattle.std.specs.Prelude.{◌≡◌, ◌++◌, OnOk};
+ghost use Rattle.script.specs.Script.{script_part_of};
+
 use crate::command::Command;
 use crate::error::ParseError;
 use crate::script::{parse, script_part};
@@ -73,6 +76,13 @@ fn obeyed(
     Ok(Some(next))
 }
 
+// Adds the part of the line that is the script.
+fn push_script_part(out: &mut Vec<u8>, line: &[u8]) -> Result<(), AllocError>
+    ensures { OnOk result (out.new.items ≡ out.old.items ++ script_part_of line.now) }
+{
+    out.extend_from_slice(script_part(line))
+}
+
 // Runs the script, and gives what is printed: each line with its answer, without comments and empty lines.
 pub fn run(heap: Global, input: &[u8]) -> Result<Vec<u8>, AllocError> {
     let lines = pieces::<Newline>(heap, input)?;
@@ -82,11 +92,11 @@ pub fn run(heap: Global, input: &[u8]) -> Result<Vec<u8>, AllocError> {
         match parse(heap, line) {
             Ok(None) => continue,
             Ok(Some(command)) => {
-                out.extend_from_slice(script_part(line))?;
+                push_script_part(&mut out, line)?;
                 session = obeyed(&mut out, session, &command)?;
             }
             Err(ParseError::Unreadable) => {
-                out.extend_from_slice(script_part(line))?;
+                push_script_part(&mut out, line)?;
                 out.extend_from_slice(b" -> unreadable")?;
             }
             // memory that did not suffice is the error of the whole

@@ -18,7 +18,8 @@ use costs::Kind;
 impl<'a, K: Kind> Filling<'a, K> {
     // Adds all sections that the reader has left.
     pub fn add_sections(&mut self, mut reader: Reader<'a>) -> Result<(), LoadFault>
-        ensures { told result (so_far self.new) ≡ from_last K.meaning self.old.trust reader.entry.last (reading reader.entry).left (so_far self.old) }
+        ensures after { told result (so_far self.new) ≡ from_last K.meaning self.old.trust reader.entry.last (reading reader.entry).left (so_far self.old) }
+        ensures same { self.new.trust ≡ self.old.trust }
     {
         while let Some(section) = reader.next()? {
             self.add_section(section)?;

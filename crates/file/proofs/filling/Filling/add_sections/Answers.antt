@@ -12,8 +12,8 @@ use Rattle.file.proofs.filling.Filling.add_sections.Goals.{In-Some}
 at_some : (g : given.Over) (c : In-Some g) → next_answer (reading c.loop-section.reader) ≡ Ok (Some (found_section c.in-Some.section))
 at_some g c = rw c.in-Some.is at (sym c.in_ok-section.ensures.answer)
 
-pub returns-in_err-section : goal.returns-in_err-section
-returns-in_err-section g c =
+pub returns-in_err-section-clause-after : goal.returns-in_err-section-clause-after
+returns-in_err-section-clause-after g c =
     let p = err_from_is_err_and c.from_residual.result c.from_residual.ensures.1 in
     let l = c.loop-section in
     rw (p.1, p.2) (sym (reader_refused g.K.Kind.meaning l.self.trust (reading l.reader) (so_far l.self) _ (sym c.in_err-section.ensures.answer)) ∙ l.invariant.left)
@@ -34,17 +34,17 @@ loop-section-preserved g c =
     let t = turn g (goal.at.loop-section-preserved g c).In-Some in
     let h = c.in_ok-add_section.ensures.after in
     let same = ap (λ (r : Reading). from_last g.K.Kind.meaning l.self.trust r.last r.left (so_far c.add_section.new.self)) c.next.ensures.after in
-    record { left = rw c.add_section.ensures.same (same ∙ (sym (rw (← h) at t) ∙ l.invariant.left)) }
+    record { left = rw c.add_section.ensures.same (same ∙ (sym (rw (← h) at t) ∙ l.invariant.left)); same = c.add_section.ensures.same ∙ l.invariant.same }
 
-pub returns-in_err-add_section : goal.returns-in_err-add_section
-returns-in_err-add_section g c =
+pub returns-in_err-add_section-clause-after : goal.returns-in_err-add_section-clause-after
+returns-in_err-add_section-clause-after g c =
     let p = err_from_is_err_and c.from_residual-in_err-add_section.result c.from_residual-in_err-add_section.ensures.1 in
-    let t = turn g (goal.at.returns-in_err-add_section g c).In-Some in
+    let t = turn g (goal.at.returns-in_err-add_section-clause-after g c).In-Some in
     let h = c.in_err-add_section.ensures.after in
     rw (p.1, p.2) (sym (rw (← h) at t) ∙ c.loop-section.invariant.left)
 
-pub returns : goal.returns
-returns g c =
+pub returns-clause-after : goal.returns-clause-after
+returns-clause-after g c =
     let l = c.loop-section in
     let a : next_answer (reading l.reader) ≡ Ok None = search rules in
     sym (reader_end g.K.Kind.meaning l.self.trust (reading l.reader) (so_far l.self) a) ∙ l.invariant.left

@@ -3,6 +3,7 @@ use Rattle.file.specs.Records.{row_added, line_added, records}
 use Rattle.file.specs.Load.{at_end, from_note, from_lines, from_rows, sized}
 use Rattle.file.specs.Examples.{LayoutExamples}
 use Rattle.file.proofs.Exactly.{exactly}
+use Rattle.file.proofs.Longest.{no_longer}
 use Rattle.file.proofs.loading.DraftLoad.load.Goals as goal
 
 worked : LayoutExamples
@@ -28,10 +29,12 @@ worked = record {
 pub returns : goal.returns
 returns g c =
     let h = c.load_draft.ensures in
+    let exact = exactly g.K.Kind.meaning c.args.bytes.now _ _ (λ i. omega (arith, c.type_inv.bytes i)) h.answer h.after in
     record {
       answer = h.answer;
       after = h.after;
       sound = h.sound;
-      exact = exactly g.K.Kind.meaning c.args.bytes.now _ _ (λ i. omega (arith, c.type_inv.bytes i)) h.answer h.after;
+      exact = exact;
+      size = no_longer g.K.Kind.meaning c.args.bytes.now _ _ exact;
       examples = worked;
     }
