@@ -20,7 +20,7 @@ use Rattle.board.specs.Promises.{Cheapest}
 use Rattle.board.specs.Questions.{recorded_cost, between_answer, cost_told, cost_answer, fits, path_told, path_written, path_answer, path_after, CostMeans, PathMeans, Pair, BetweenMeans}
 use Rattle.board.proofs.Membership.{none_some}
 use Rattle.board.proofs.Finding.{joins_parts, between_some, between_is, found_recorded, found_none}
-use Rattle.board.proofs.Growing.{place_below}
+use Rattle.board.proofs.Numbers.{place_below}
 use Rattle.board.proofs.Promised.{settling_promises}
 
 module _ {m : Meaning} {c : Content} (laws : Lawful m) (sound : Sound m c) {log : List Record} (d : Settled m c log) where

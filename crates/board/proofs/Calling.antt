@@ -1,126 +1,413 @@
--- Finding the fronts and insides of calls by the index.
-use Rattle.std.proofs.Common.{◌≡◌, ℕ, ◌+◌, ◌*◌, ◌<◌, true, nat_lt, List, length, get_or, Some, None, Option, sym, refl, ap, ◌∙◌, subst, ap₂, subst₂, arith}
-use Rattle.std.proofs.lemmas.Bool.{ltb-true}
+-- Finding the call that makes a goal.
+use Rattle.std.proofs.Common.{◌≡◌, ℕ, ◌+◌, ◌*◌, ◌/◌, ◌%◌, ◌<◌, ◌≤◌, true, false, List, [], ◌∷◌, ◌++◌, length, get_or, Some, None, sym, refl, ap, ◌∙◌, subst, subst₂, ap₂, inl, inr, ⊎_elim, arith}
+use lib.Arith.{digits_div, digits_mod}
+use Rattle.std.proofs.lemmas.Bool.{cases_eq, cases_lt, both_ways, and_parts, and_from, eqb-true, eq-eqb}
 use Rattle.std.specs.List.{slice_get}
-use Rattle.costs.specs.Meaning.{Meaning, Lawful}
-use Rattle.board.specs.Moves.{Place, Transition, On, place_number, moment, mode}
+use Rattle.costs.specs.Meaning.{Meaning, Lawful, Cost, NoDearer}
 use Rattle.board.specs.declared.row.Row.{Row}
-use Rattle.board.specs.declared.moves.Arrival.{Arrival}
-use Rattle.board.specs.declared.moves.Effect.TheVariants.{Opens}
-use Rattle.board.specs.Settling.{Record, bare}
-use Rattle.board.proofs.Transitions.{transition_arrival}
-use Rattle.board.proofs.Decomposing.{transition_on}
-use Rattle.board.proofs.Diagonal.{place_eq}
-use Rattle.std.proofs.lemmas.Option.{slice_get-get_or}
-use Rattle.board.proofs.Membership.{some_eq, none_some}
-use Rattle.board.proofs.Uniqueness.{number_eq, bracket_alone, opens_not_quiet}
+use Rattle.board.specs.declared.row.RowKind.{RowKind}
+use Rattle.board.specs.declared.row.RowKind.TheVariants.{Plain as PlainRow, Open, Close, End}
+use Rattle.board.specs.declared.moves.Move.{Move}
+use Rattle.board.specs.declared.moves.Effect.{Effect}
+use Rattle.board.specs.declared.moves.Effect.TheVariants.{Quiet, Opens, Closes}
 use Rattle.board.specs.declared.log.Log.{Log}
-use Rattle.board.specs.declared.log.Way.{Way}
+use Rattle.board.specs.declared.log.Source.{Source}
+use Rattle.board.specs.declared.log.Source.TheVariants.{Call}
+use Rattle.board.specs.declared.settling.Goal.{Goal}
 use Rattle.board.specs.Content.{Content}
-use Rattle.board.specs.Logs.{numbered, Ready, Opened, CallsIn, CallsTo, CallsAt, CallsFrom, CallsAround}
-use Rattle.board.proofs.Growing.{number_in}
+use Rattle.board.specs.Moves.{Place, mode, moment, On, place_number, effect, effect_of, Transition}
+use Rattle.board.specs.Settling.{Record, Derivation, by_step, by_call, bare, call_record, Candidate, step, call, derivation_key, Lex}
+use Rattle.board.specs.Logged.{pair_of, derivation_of, record_of}
+use Rattle.board.specs.Logs.{records, numbered, nth_record, Ready}
+use Rattle.board.specs.Lowering.{Attained, Bounds}
+use Rattle.board.specs.Minima.{closing_number, Closing, Link}
+use Rattle.board.specs.Winning.{GoalOn, Makes, made, Wins, Finds, CallAt, CallsBy, CallsOpened, Calls, Gathered, TightAt, Brackets, is_close, closes_to}
+use Rattle.board.proofs.Laws.{no_dearer_same}
+use Rattle.board.proofs.Membership.{some_eq, none_some}
+use Rattle.board.proofs.Diagonal.{place_eq}
+use Rattle.board.proofs.Precedence.{lex_refl}
+use Rattle.board.proofs.Decomposing.{transition_cost}
+use Rattle.board.proofs.Uniqueness.{number_eq, bracket_alone, opens_not_quiet, closes_not_quiet}
+use Rattle.board.proofs.Candidates.{move_eq}
+use Rattle.board.proofs.Logging.{logged_in, in_logged, settled_is}
+use Rattle.board.proofs.Numbers.{number_in}
+use Rattle.board.proofs.Lowering.{attained_cost}
+use Rattle.board.proofs.Closings.{goes_row, opens_small, closing_in, closing_cost}
+use Rattle.board.proofs.Links.{entry_cost, joined_right}
+use Rattle.board.proofs.Winning.{wins_more}
 
--- what was read at an index that is within the list
-pub got : {A : Type 0} {xs ys : List A} {x : A} (i : ℕ) (d : A) → ys ≡ xs → true ≡ nat_lt i (length ys) → x ≡ get_or ys i d → slice_get xs i ≡ Some x
-got {xs = xs} {ys} i d same within is = ap (λ zs. slice_get zs i) (sym same) ∙ slice_get-get_or ys i d (ltb-true i (length ys) (sym within)) ∙ ap Some (sym is)
+-- the front and inside of a call that makes a goal
+pub record CallParts (m : Meaning) (c : Content) (l : Log) (g : Goal) (o w t : ℕ) : Type 0 where
+  pub front : ℕ
+  pub inside : ℕ
+  pub front_in : front < l.count
+  pub inside_in : inside < l.count
+  pub starts : (numbered l front).from ≡ g.from
+  pub price : ℕ
+  pub last : ℕ
+  pub bracket : ℕ
+  pub opens : Transition m c (bare o) (numbered l front).to (numbered l inside).from price (Opens bracket)
+  pub closes : Transition m c (bare w) (numbered l inside).to g.to last (Closes bracket)
+  pub when : moment (numbered l front).to ≡ t
+  pub costs : m.join (m.join (m.join (numbered l front).cost price) (numbered l inside).cost) last ≡ g.cost
 
--- what was read at a number that is p
-seen : {A : Type 0} (f : ℕ → A) (n p : ℕ) (x o : A) → n ≡ p → x ≡ f n → x ≡ o → f p ≡ o
-seen f n p x o e g h = ap f (sym e) ∙ (sym g ∙ h)
+pub call_of : {m : Meaning} {c : Content} {l : Log} {g : Goal} {y : Record} (o w t : ℕ) → Candidate m c (records l) y → y.from ≡ g.from → y.to ≡ g.to → y.cost ≡ g.cost → y.derivation ≡ by_call o w t → CallParts m c l g o w t
+call_of o w t (step a {v} i u) s e f d = let z : by_step v ≡ by_call o w t = d in absurd cc
+call_of {m} {c} {l} {g} o w t (call a b {o = o'} {w = w'} {q} {k} {l = n} {n = bracket} i u j v) s e f d =
+    let z : by_call o'.row w'.row (moment a.to) ≡ by_call o w t = d in
+    let eo : o'.row ≡ o = cc in
+    let ew : w'.row ≡ w = cc in
+    let et : moment a.to ≡ t = cc in
+    let ra = logged_in l.entries l.count a i in
+    let rb = logged_in l.entries l.count b j in
+    let mo : o' ≡ bare o = move_eq o' (bare o) eo (bracket_alone (opens_not_quiet bracket) u).0 in
+    let mw : w' ≡ bare w = move_eq w' (bare w) ew (bracket_alone (closes_not_quiet bracket) v).0 in
+    record {
+      front = ra.0;
+      inside = rb.0;
+      front_in = ra.1;
+      inside_in = rb.1;
+      starts = ap (λ (x : Record). x.from) (sym ra.2) ∙ s;
+      price = k;
+      last = n;
+      bracket = bracket;
+      opens = subst (λ (z : Move). Transition m c z (numbered l ra.0).to (numbered l rb.0).from k (Opens bracket)) mo (subst₂ (λ (p q : Place). Transition m c o' p q k (Opens bracket)) (ap (λ (x : Record). x.to) ra.2) (ap (λ (x : Record). x.from) rb.2) u);
+      closes = subst (λ (z : Move). Transition m c z (numbered l rb.0).to g.to n (Closes bracket)) mw (subst₂ (λ (p q : Place). Transition m c w' p q n (Closes bracket)) (ap (λ (x : Record). x.to) rb.2) e v);
+      when = ap (λ (x : Record). moment x.to) (sym ra.2) ∙ et;
+      costs = ap₂ (λ (x y : Record). m.join (m.join (m.join x.cost k) y.cost) n) (sym ra.2) (sym rb.2) ∙ f;
+    }
 
-module _ {m : Meaning} {c : Content} {l : Log} (laws : Lawful m) (ready : Ready m c l) where
-  place_small : (p : Place) → On c p → place_number c p < 64
-  place_small p on = number_in c p ready.sound.few_places on
+-- places at moments of the board that have one number are one
+pub place_unique : (c : Content) (p q : Place) → moment p < c.moments → moment q < c.moments → place_number c p ≡ place_number c q → p ≡ q
+place_unique c p q h g e = place_eq p q (sym (digits_div (mode p) h) ∙ ap (λ x. x / c.moments) e ∙ digits_div (mode q) g) (sym (digits_mod (mode p) h) ∙ ap (λ x. x % c.moments) e ∙ digits_mod (mode q) g)
 
-  place_in : (i : ℕ) → i < l.count → (place_number c (numbered l i).from < 64) × (place_number c (numbered l i).to < 64)
-  place_in i h = let k = ready.book.kept i h in (place_small _ k.from_on, place_small _ k.to_on)
+-- what a bracket's row says of its move, and the other way round
+module _ {m : Meaning} {c : Content} (i : ℕ) (r : Row) (row_is : slice_get c.rows i ≡ Some r) where
+  pub bracket_leaves : {p q : Place} {k : ℕ} {e : Effect} → Transition m c (bare i) p q k e → mode p ≡ r.from
+  bracket_leaves t = t.leaves ∙ ap (λ (z : Row). z.from) (some_eq _ _ _ t.found row_is)
 
-  -- what the index has at a pair of numbers
-  index_hit : (p u i : ℕ) → u < 64 → get_or l.index (p * 64 + u) None ≡ Some i → (i < l.count) × (place_number c (numbered l i).from ≡ p) × (place_number c (numbered l i).to ≡ u)
-  index_hit p u i h e =
-      let f = ready.book.finds (p * 64 + u) i e in
-      let z = f.1 in
-      let k = place_in i f.0 in
-      let k1 = k.1 in
-      (f.0, omega arith, omega arith)
+  pub bracket_enters : {p q : Place} {k : ℕ} {e : Effect} → (e ≡ Quiet → ⊥) → Transition m c (bare i) p q k e → q ≡ (r.to, moment p)
+  bracket_enters {p} {q} loud t = place_eq q (r.to, moment p) (t.enters ∙ ap (λ (z : Row). z.to) (some_eq _ _ _ t.found row_is)) (sym (bracket_alone loud t).1)
 
-  index_is : (p u i : ℕ) → i < l.count → place_number c (numbered l i).from ≡ p → place_number c (numbered l i).to ≡ u → get_or l.index (p * 64 + u) None ≡ Some i
-  index_is p u i h e f = ap₂ (λ (a b : ℕ). get_or l.index (a * 64 + b) None) (sym e) (sym f) ∙ ready.book.found i h
+  pub bracket_price : {p q : Place} {k : ℕ} {e : Effect} → Transition m c (bare i) p q k e → k ≡ r.cost
+  bracket_price t = ⊎_elim (λ u. u.price ∙ ap (λ (z : Row). z.cost) (some_eq _ _ _ t.found row_is)) (λ u. absurd (none_some _ _ refl u.along)) t.time
 
-  -- where the row leads to from one place
-  leads_one : (o : ℕ) (p q q' : Place) (k k' n n' : ℕ) → Transition m c (bare o) p q k (Opens n) → Transition m c (bare o) p q' k' (Opens n') → q ≡ q'
-  leads_one o p q q' k k' n n' g g' = ap (λ (h : Arrival). h.to) (some_eq _ _ _ (transition_arrival m c (bare o) p q k (Opens n) g) (transition_arrival m c (bare o) p q' k' (Opens n') g'))
+  pub bracket_does : {p q : Place} {k : ℕ} {e : Effect} → Transition m c (bare i) p q k e → e ≡ effect r
+  bracket_does t = t.does ∙ ap (λ (z : Row). effect z) (some_eq _ _ _ t.found row_is)
 
-  -- the record i, the row o open, and what was read at u
-  module _ (i o : ℕ) (within : i < l.count) (w : Way) (goes : Transition m c (bare o) (numbered l i).to w.to w.cost (Opens w.bracket)) where
-    pub way_small : place_number c w.to < 64
-    way_small = place_small w.to (transition_on laws ready.sound goes)
+  pub bracket_goes : (e : Effect) → effect r ≡ e → (r.kind ≡ PlainRow → ⊥) → (r.kind ≡ End → ⊥) → (p q : Place) → mode p ≡ r.from → moment p < c.moments → q ≡ (r.to, moment p) → Transition m c (bare i) p q r.cost e
+  bracket_goes e does not-plain not-end p q from there to = record {
+    by = r;
+    found = row_is;
+    leaves = from;
+    enters = ap (λ (z : Place). mode z) to;
+    does = sym does;
+    time = inl (record {
+      alone = refl;
+      no_event = λ z. absurd (not-plain z);
+      at_end = λ z. absurd (not-end z);
+      there = there;
+      keeps = sym (ap (λ (z : Place). moment z) to);
+      price = refl;
+    });
+  }
 
-    module _ (u : ℕ) {n : ℕ} {x : Option ℕ} (at : n ≡ place_number c w.to) (read : x ≡ get_or l.index (n * 64 + u) None) where
-      inside_read : (y : Option ℕ) → x ≡ y → get_or l.index (place_number c w.to * 64 + u) None ≡ y
-      inside_read y is = seen (λ (p : ℕ). get_or l.index (p * 64 + u) None) n _ x y at read is
+effect_open : (r : Row) → r.kind ≡ Open → effect r ≡ Opens r.label
+effect_open r e = ap (λ (k : RowKind). effect_of k r.label) e
 
-      pub inside_in : (j : ℕ) → u < 64 → x ≡ Some j → j < l.count
-      inside_in j h is = (index_hit _ u j h (inside_read _ is)).0
+effect_close : (r : Row) → r.kind ≡ Close → effect r ≡ Closes r.label
+effect_close r e = ap (λ (k : RowKind). effect_of k r.label) e
 
-      pub inside_opened : (j k : ℕ) → u < 64 → x ≡ Some j → k ≡ m.join (m.join (numbered l i).cost w.cost) (numbered l j).cost → Opened m c l (record { front = i; inside = j; row = o; bracket = w.bracket; cost = k })
-      inside_opened j k h is z =
-          let f = index_hit _ u j h (inside_read _ is) in
-          let s : w.to ≡ (numbered l j).from = number_eq c _ _ (transition_on laws ready.sound goes) (ready.book.kept j f.0).from_on (sym f.1) in
-          record { front_in = within; inside_in = f.0; price = w.cost; goes = subst (λ (q : Place). Transition m c (bare o) (numbered l i).to q w.cost (Opens w.bracket)) s goes; cost_is = z }
+not_both : (k : RowKind) → k ≡ Open → (k ≡ PlainRow → ⊥) × (k ≡ End → ⊥)
+not_both k e = (λ z. let h : Open ≡ PlainRow = sym e ∙ z in cc, λ z. let h : Open ≡ End = sym e ∙ z in cc)
 
-      inside_index : (y : Record) (s : CallsTo m c l i o u y) → get_or l.index (place_number c w.to * 64 + u) None ≡ Some s.0
-      inside_index y (j, h, e, (z, d)) = index_is _ u j h (ap (place_number c) (leads_one o (numbered l i).to (numbered l j).from w.to d.k w.cost d.n w.bracket d.opens goes)) e
+not_close : (k : RowKind) → k ≡ Close → (k ≡ PlainRow → ⊥) × (k ≡ End → ⊥)
+not_close k e = (λ z. let h : Close ≡ PlainRow = sym e ∙ z in cc, λ z. let h : Close ≡ End = sym e ∙ z in cc)
 
-      pub inside_hit : (j : ℕ) → x ≡ Some j → (y : Record) → CallsTo m c l i o u y → CallsIn m c l i j o y
-      inside_hit j is y s = subst (λ (z : ℕ). CallsIn m c l i z o y) (some_eq _ _ _ (inside_index y s) (inside_read _ is)) s.3
+close_kind : (k : RowKind) (n u : ℕ) → Closes n ≡ effect_of k u → (k ≡ Close) × (n ≡ u)
+close_kind PlainRow n u e = absurd cc
+close_kind Open n u e = absurd cc
+close_kind Close n u e = (refl, cc)
+close_kind End n u e = absurd cc
 
-      pub inside_miss : x ≡ None → (y : Record) → CallsTo m c l i o u y → ⊥
-      inside_miss is y s = none_some _ _ (inside_read _ is) (inside_index y s)
+pub close_is : (k : RowKind) → is_close k ≡ true → k ≡ Close
+close_is PlainRow e = absurd (both_ways _ refl e)
+close_is Open e = absurd (both_ways _ refl e)
+close_is Close e = refl
+close_is End e = absurd (both_ways _ refl e)
 
-  pub insides_all : (i o : ℕ) (y : Record) → CallsFrom m c l i o y → (u : ℕ) × (u < 64) × CallsTo m c l i o u y
-  insides_all i o y (j, h, s) = (place_number c (numbered l j).to, (place_in j h).1, (j, h, refl, s))
+-- what the index has between two places
+pub between_places : {m : Meaning} {c : Content} {l : Log} (ready : Ready m c l) (p q : Place) → On c p → On c q → (i : ℕ) → get_or l.index (pair_of c p q) None ≡ Some i → (i < l.count) × ((numbered l i).from ≡ p) × ((numbered l i).to ≡ q)
+between_places {c = c} {l} ready p q hp hq i e =
+    let f = ready.book.finds _ i e in
+    let kept = ready.book.kept i f.0 in
+    let f1 = f.1 in
+    let a = number_in c (numbered l i).to ready.sound.few_places kept.to_on in
+    let b = number_in c q ready.sound.few_places hq in
+    (f.0, number_eq c _ _ kept.from_on hp (omega arith), number_eq c _ _ kept.to_on hq (omega arith))
 
-  pub insides_none : (i o : ℕ) → ((q : Place) (k n : ℕ) → Transition m c (bare o) (numbered l i).to q k (Opens n) → ⊥) → (y : Record) → CallsFrom m c l i o y → ⊥
-  insides_none i o never y (j, h, (x, d)) = never _ _ _ d.opens
+module _ {m : Meaning} {c : Content} {l : Log} (laws : Lawful m) (ready : Ready m c l) (g : Goal) (on : GoalOn c g) where
+  pub call_parts : (o w t : ℕ) (y : Record) → Makes m c l g y → CallAt o w t y.derivation → CallParts m c l g o w t
+  call_parts o w t y k d = call_of o w t k.candidate k.starts k.ends k.costs d
 
-  -- where a call with the inside j starts
-  opens_where : (i j o : ℕ) (r : Row) (y : Record) → slice_get c.rows o ≡ Some r → CallsIn m c l i j o y → (numbered l i).to ≡ (r.from, moment (numbered l j).from)
-  opens_where i j o r y e (x, d) = place_eq (numbered l i).to (r.from, moment (numbered l j).from) (d.opens.leaves ∙ ap (λ (z : Row). z.from) (some_eq _ _ _ d.opens.found e)) (bracket_alone (opens_not_quiet d.n) d.opens).1
+  -- an open row
+  module _ (o : ℕ) (a : Row) (row_is : slice_get c.rows o ≡ Some a) (opens : a.kind ≡ Open) where
+    pub open_place : (t : ℕ) → t < c.moments → On c (a.from, t)
+    open_place t h = ((ready.sound.sound_rows o a row_is).from_in, h)
 
-  module _ (j o : ℕ) (within : j < l.count) (r : Row) (row_is : slice_get c.rows o ≡ Some r) where
-    pub fronts_none : ((q : Place) (k n : ℕ) → Transition m c (bare o) (r.from, moment (numbered l j).from) q k (Opens n) → ⊥) → (y : Record) → CallsAround m c l j o y → ⊥
-    fronts_none never y (i, h, (x, d)) = never _ _ _ (subst (λ (p : Place). Transition m c (bare o) p (numbered l j).from d.k (Opens d.n)) (opens_where i j o r y row_is (x, d)) d.opens)
+    pub entry_place : (t : ℕ) → t < c.moments → On c (a.to, t)
+    entry_place t h = ((ready.sound.sound_rows o a row_is).to_in, h)
 
-    place_on : On c (r.from, moment (numbered l j).from)
-    place_on = ((ready.sound.sound_rows o r row_is).from_in, (ready.book.kept j within).from_on.1)
+    pub place_in_mode : (p : Place) → mode p ≡ a.from → moment p < c.moments → On c p
+    place_in_mode p e h = let f = (ready.sound.sound_rows o a row_is).from_in in (omega arith, h)
 
-    pub front_small : place_number c (r.from, moment (numbered l j).from) < 64
-    front_small = place_small _ place_on
+    pub label_small : a.label < 16
+    label_small = opens_small laws ready.sound {p = (a.from, 0)} {q = (a.to, 0)} (bracket_goes {m = m} o a row_is (Opens a.label) (effect_open a opens) (not_both a.kind opens).0 (not_both a.kind opens).1 (a.from, 0) (a.to, 0) refl ready.sound.some_moment refl)
 
-    -- what was read for a front that starts at s
-    module _ (s : ℕ) {n : ℕ} {x : Option ℕ} (at : n ≡ place_number c (r.from, moment (numbered l j).from)) (read : x ≡ get_or l.index (s * 64 + n) None) where
-      front_read : (y : Option ℕ) → x ≡ y → get_or l.index (s * 64 + place_number c (r.from, moment (numbered l j).from)) None ≡ y
-      front_read y is = seen (λ (p : ℕ). get_or l.index (s * 64 + p) None) n _ x y at read is
+    -- where a call that it opens starts and enters
+    front_at : {w t : ℕ} (x : CallParts m c l g o w t) → (numbered l x.front).to ≡ (a.from, t)
+    front_at {w} {t} x = place_eq (numbered l x.front).to (a.from, t) (bracket_leaves o a row_is x.opens) x.when
 
-      pub front_in : (i : ℕ) → x ≡ Some i → i < l.count
-      front_in i is = (index_hit s _ i front_small (front_read _ is)).0
+    inside_from : {w t : ℕ} (x : CallParts m c l g o w t) → (numbered l x.inside).from ≡ (a.to, t)
+    inside_from {w} {t} x = bracket_enters o a row_is (opens_not_quiet x.bracket) x.opens ∙ ap (λ (n : ℕ). (a.to, n)) x.when
 
-      pub front_opened : (w : Way) → Transition m c (bare o) (r.from, moment (numbered l j).from) w.to w.cost (Opens w.bracket) → mode w.to ≡ mode (numbered l j).from → (i k : ℕ) → x ≡ Some i → k ≡ m.join (m.join (numbered l i).cost w.cost) (numbered l j).cost → Opened m c l (record { front = i; inside = j; row = o; bracket = w.bracket; cost = k })
-      front_opened w goes meets i k is z =
-          let f = index_hit s _ i front_small (front_read _ is) in
-          let a : (r.from, moment (numbered l j).from) ≡ (numbered l i).to = number_eq c _ _ place_on (ready.book.kept i f.0).to_on (sym f.2) in
-          let to : w.to ≡ (numbered l j).from = place_eq w.to (numbered l j).from meets (sym (bracket_alone (opens_not_quiet w.bracket) goes).1) in
-          record { front_in = f.0; inside_in = within; price = w.cost; goes = subst₂ (λ (p q : Place). Transition m c (bare o) p q w.cost (Opens w.bracket)) a to goes; cost_is = z }
+    bracket_is : {w t : ℕ} (x : CallParts m c l g o w t) → x.bracket ≡ a.label
+    bracket_is x = let z : Opens x.bracket ≡ Opens a.label = bracket_does o a row_is x.opens ∙ effect_open a opens in cc
 
-      front_index : (y : Record) (q : CallsAt m c l j o s y) → get_or l.index (s * 64 + place_number c (r.from, moment (numbered l j).from)) None ≡ Some q.0
-      front_index y (i, h, e, d) = index_is s _ i h e (ap (place_number c) (opens_where i j o r y row_is d))
+    pub moment_in : {w t : ℕ} (x : CallParts m c l g o w t) → t < c.moments
+    moment_in {w} {t} x = let h = (ready.book.kept x.front x.front_in).to_on.1 in omega (arith, x.when)
 
-      pub front_hit : (i : ℕ) → x ≡ Some i → (y : Record) → CallsAt m c l j o s y → CallsIn m c l i j o y
-      front_hit i is y q = subst (λ (z : ℕ). CallsIn m c l z j o y) (some_eq _ _ _ (front_index y q) (front_read _ is)) q.3
+    front_index : {w t : ℕ} (x : CallParts m c l g o w t) → get_or l.index (pair_of c g.from (a.from, t)) None ≡ Some x.front
+    front_index x = ap₂ (λ (p q : Place). get_or l.index (pair_of c p q) None) (sym x.starts) (sym (front_at x)) ∙ ready.book.found x.front x.front_in
 
-      pub front_miss : x ≡ None → (y : Record) → CallsAt m c l j o s y → ⊥
-      front_miss is y q = none_some _ _ (front_read _ is) (front_index y q)
+    -- its front's place is tight
+    is_tight : {w t : ℕ} (x : CallParts m c l g o w t) → TightAt m c l g (place_number c (a.from, t))
+    is_tight {w} {t} x =
+        let hk = transition_cost laws ready.sound x.opens in
+        let hl = transition_cost laws ready.sound x.closes in
+        let ha = entry_cost laws ready x.front x.front_in in
+        let hb = entry_cost laws ready x.inside x.inside_in in
+        let same = joined_right laws ready _ _ _ _ ha hk hb hl ∙ x.costs in
+        record {
+          front = x.front;
+          front_in = x.front_in;
+          starts = x.starts;
+          there = ap (place_number c) (front_at x);
+          price = m.join x.price (m.join (numbered l x.inside).cost x.last);
+          link = subst (λ (n : ℕ). Link m c l (n * 64 + place_number c g.to) (m.join x.price (m.join (numbered l x.inside).cost x.last))) (ap (place_number c) (front_at x)) (inr (
+            o,
+            record {
+              place = (numbered l x.front).to;
+              entry = (numbered l x.inside).from;
+              exit = g.to;
+              bracket = x.bracket;
+              price = x.price;
+              rest = m.join (numbered l x.inside).cost x.last;
+              goes = x.opens;
+              exit_on = on.1;
+              closing = (x.inside, x.inside_in, (w, record { exit = g.to; bracket = x.bracket; price = x.last; goes = x.closes; at = refl; cost_is = refl }));
+              at = refl;
+              cost_is = refl;
+            },
+          ));
+          within = subst (NoDearer m (m.join (numbered l x.front).cost (m.join x.price (m.join (numbered l x.inside).cost x.last)))) same (no_dearer_same laws _ (laws.join_cost _ _ ha (laws.join_cost _ _ hk (laws.join_cost _ _ hb hl))));
+        }
 
-  pub fronts_all : (j o : ℕ) (y : Record) → CallsAround m c l j o y → (s : ℕ) × (s < 64) × CallsAt m c l j o s y
-  fronts_all j o y (i, h, s) = (place_number c (numbered l i).from, (place_in i h).0, (i, h, refl, s))
+    -- so the list has it
+    listed : (xs : List ℕ) → Gathered (TightAt m c l g) 64 xs → {w t : ℕ} (x : CallParts m c l g o w t) → (n : ℕ) × (n < length xs) × (get_or xs n 0 ≡ place_number c (a.from, t))
+    listed xs all {w} {t} x = all.complete (place_number c (a.from, t)) (number_in c (a.from, t) ready.sound.few_places (open_place t (moment_in x))) (is_tight x)
+
+    -- the place of a number of the list
+    module _ (xs : List ℕ) (all : Gathered (TightAt m c l g) 64 xs) (n : ℕ) (p : Place) (number_is : place_number c p ≡ get_or xs n 0) (there : moment p < c.moments) where
+      the_place : (t : ℕ) → t < c.moments → get_or xs n 0 ≡ place_number c (a.from, t) → p ≡ (a.from, t)
+      the_place t h e = place_unique c p (a.from, t) there h (number_is ∙ e)
+
+    -- the list's first n give no call by a close row
+    abbrev pub NoneWhile : ℕ → List ℕ → ℕ → Type 0
+    NoneWhile w xs n = (i : ℕ) → i < n → (t : ℕ) → t < c.moments → get_or xs i 0 ≡ place_number c (a.from, t) → Finds m c l g (CallAt o w t) None
+
+    -- the same of the whole reach of the open row
+    abbrev pub NoneReached : List ℕ → ℕ → Type 0
+    NoneReached xs n = (i : ℕ) → i < n → (w t : ℕ) → CallParts m c l g o w t → get_or xs i 0 ≡ place_number c (a.from, t) → ⊥
+
+    pub none_while_more : (w : ℕ) (xs : List ℕ) (n : ℕ) → NoneWhile w xs n → ((t : ℕ) → t < c.moments → get_or xs n 0 ≡ place_number c (a.from, t) → Finds m c l g (CallAt o w t) None) → NoneWhile w xs (n + 1)
+    none_while_more w xs n old new i h = ⊎_elim (λ (e : i ≡ n). subst (λ (j : ℕ). (t : ℕ) → t < c.moments → get_or xs j 0 ≡ place_number c (a.from, t) → Finds m c l g (CallAt o w t) None) (sym e) new) (λ (z : i ≡ n → ⊥). old i (omega arith)) (cases_eq i n)
+
+    pub none_reached_more : (xs : List ℕ) (n : ℕ) → NoneReached xs n → ((w t : ℕ) → CallParts m c l g o w t → get_or xs n 0 ≡ place_number c (a.from, t) → ⊥) → NoneReached xs (n + 1)
+    none_reached_more xs n old new i h = ⊎_elim (λ (e : i ≡ n). subst (λ (j : ℕ). (w t : ℕ) → CallParts m c l g o w t → get_or xs j 0 ≡ place_number c (a.from, t) → ⊥) (sym e) new) (λ (z : i ≡ n → ⊥). old i (omega arith)) (cases_eq i n)
+
+    pub none_reached : (xs : List ℕ) → Gathered (TightAt m c l g) 64 xs → (n : ℕ) → length xs ≤ n → NoneReached xs n → Finds m c l g (CallsOpened o) None
+    none_reached xs all n h old y k (w, (t, d)) = let x = call_parts o w t y k d in let f = listed xs all x in let f1 = f.1 in old f.0 (omega arith) w t x f.2
+
+    -- another mode
+    pub other_mode : (xs : List ℕ) (n : ℕ) (p : Place) → place_number c p ≡ get_or xs n 0 → moment p < c.moments → (mode p ≡ a.from → ⊥) → (t : ℕ) → t < c.moments → get_or xs n 0 ≡ place_number c (a.from, t) → ⊥
+    other_mode xs n p number_is there far t h e = far (ap (λ (z : Place). mode z) (place_unique c p (a.from, t) there h (number_is ∙ e)))
+
+    -- the moment of the place
+    pub same_moment : (xs : List ℕ) (n : ℕ) (p : Place) → place_number c p ≡ get_or xs n 0 → moment p < c.moments → (t : ℕ) → t < c.moments → get_or xs n 0 ≡ place_number c (a.from, t) → moment p ≡ t
+    same_moment xs n p number_is there t h e = ap (λ (z : Place). moment z) (place_unique c p (a.from, t) there h (number_is ∙ e))
+
+    -- no front there
+    pub reaches_no_front : (p : Place) → get_or l.index (pair_of c g.from p) None ≡ None → (w t : ℕ) → CallParts m c l g o w t → p ≡ (a.from, t) → ⊥
+    reaches_no_front p e w t x is = none_some _ _ e (ap (λ (z : Place). get_or l.index (pair_of c g.from z) None) is ∙ front_index x)
+
+    -- too dear there
+    pub reaches_dear : (closings : List ℕ) → length closings ≡ 65536 → Attained m (Closing m c l) closings → Bounds m (Closing m c l) closings → Cost m g.cost → (p : Place) (i : ℕ) → get_or l.index (pair_of c g.from p) None ≡ Some i → m.no_dearer (m.join (m.join (numbered l i).cost a.cost) (get_or closings (closing_number (place_number c (a.to, moment p)) a.label (place_number c g.to)) 0)) g.cost ≡ false → (w t : ℕ) → CallParts m c l g o w t → p ≡ (a.from, t) → ⊥
+    reaches_dear closings wide attained bounds goal-cost p i at dear w t x is =
+        let front : i ≡ x.front = some_eq _ _ _ at (ap (λ (z : Place). get_or l.index (pair_of c g.from z) None) is ∙ front_index x) in
+        let slot = closing_number (place_number c (a.to, t)) a.label (place_number c g.to) in
+        let small = closing_in laws ready.sound (a.to, t) g.to a.label (entry_place t (moment_in x)) on.1 label_small in
+        let hk = transition_cost laws ready.sound x.opens in
+        let hl = transition_cost laws ready.sound x.closes in
+        let ha = entry_cost laws ready x.front x.front_in in
+        let hb = entry_cost laws ready x.inside x.inside_in in
+        let hc = attained_cost laws (closing_cost laws ready) closings attained slot (omega arith) in
+        let hak = laws.join_cost _ _ ha hk in
+        let price : x.price ≡ a.cost = bracket_price o a row_is x.opens in
+        let closing : Closing m c l slot (m.join (numbered l x.inside).cost x.last) = (x.inside, x.inside_in, (w, record { exit = g.to; bracket = x.bracket; price = x.last; goes = x.closes; at = ap₂ (λ (q : Place) (n : ℕ). closing_number (place_number c q) n (place_number c g.to)) (sym (inside_from x)) (sym (bracket_is x)); cost_is = refl })) in
+        let low = laws.mono_right _ _ _ hc (laws.join_cost _ _ hb hl) hak (bounds slot _ closing) in
+        let whole : m.join (m.join (numbered l x.front).cost x.price) (m.join (numbered l x.inside).cost x.last) ≡ g.cost = sym (laws.assoc _ _ _ hak hb hl) ∙ x.costs in
+        let reach : NoDearer m (m.join (m.join (numbered l x.front).cost x.price) (get_or closings slot 0)) g.cost = subst (NoDearer m (m.join (m.join (numbered l x.front).cost x.price) (get_or closings slot 0))) whole low in
+        let here : m.join (m.join (numbered l i).cost a.cost) (get_or closings (closing_number (place_number c (a.to, moment p)) a.label (place_number c g.to)) 0) ≡ m.join (m.join (numbered l x.front).cost x.price) (get_or closings slot 0) =
+        λ j. m.join (m.join (numbered l (front j)).cost (sym price j)) (get_or closings (closing_number (place_number c (a.to, moment (is j))) a.label (place_number c g.to)) 0) in
+        both_ways _ (ap (λ (n : ℕ). m.no_dearer n g.cost) (sym here) ∙ dear) reach
+
+    -- a close row beside it
+    module _ (w : ℕ) (b : Row) (rows : Brackets c g o w a b) where
+      inside_to : {t : ℕ} (x : CallParts m c l g o w t) → (numbered l x.inside).to ≡ (b.from, moment g.to)
+      inside_to x = place_eq (numbered l x.inside).to (b.from, moment g.to) (bracket_leaves w b rows.closing x.closes) (bracket_alone (closes_not_quiet x.bracket) x.closes).1
+
+      pub inside_place : On c (b.from, moment g.to)
+      inside_place = ((ready.sound.sound_rows w b rows.closing).from_in, on.1.1)
+
+      inside_index : {t : ℕ} (x : CallParts m c l g o w t) → get_or l.index (pair_of c (a.to, t) (b.from, moment g.to)) None ≡ Some x.inside
+      inside_index x = ap₂ (λ (p q : Place). get_or l.index (pair_of c p q) None) (sym (inside_from x)) (sym (inside_to x)) ∙ ready.book.found x.inside x.inside_in
+
+      pub call_no_front : (t : ℕ) → get_or l.index (pair_of c g.from (a.from, t)) None ≡ None → Finds m c l g (CallAt o w t) None
+      call_no_front t e y k d = none_some _ _ e (front_index (call_parts o w t y k d))
+
+      pub call_no_inside : (t : ℕ) → get_or l.index (pair_of c (a.to, t) (b.from, moment g.to)) None ≡ None → Finds m c l g (CallAt o w t) None
+      call_no_inside t e y k d = none_some _ _ e (inside_index (call_parts o w t y k d))
+
+      module _ (t i j : ℕ) (there : t < c.moments) (at : get_or l.index (pair_of c g.from (a.from, t)) None ≡ Some i) (at' : get_or l.index (pair_of c (a.to, t) (b.from, moment g.to)) None ≡ Some j) where
+        pub call_no_cost : (m.join (m.join (m.join (numbered l i).cost a.cost) (numbered l j).cost) b.cost ≡ g.cost → ⊥) → Finds m c l g (CallAt o w t) None
+        call_no_cost far y k d =
+            let x = call_parts o w t y k d in
+            let ei : i ≡ x.front = some_eq _ _ _ at (front_index x) in
+            let ej : j ≡ x.inside = some_eq _ _ _ at' (inside_index x) in
+            far ((λ z. m.join (m.join (m.join (numbered l (ei z)).cost (sym (bracket_price o a row_is x.opens) z)) (numbered l (ej z)).cost) (sym (bracket_price w b rows.closing x.closes) z)) ∙ x.costs)
+
+        pub call_wins : m.join (m.join (m.join (numbered l i).cost a.cost) (numbered l j).cost) b.cost ≡ g.cost → Wins m c l g (CallAt o w t) (Call i j o w t)
+        call_wins costs =
+            let fi = between_places ready g.from (a.from, t) on.0 (open_place t there) i at in
+            let fj = between_places ready (a.to, t) (b.from, moment g.to) (entry_place t there) inside_place j at' in
+            let ni = not_both a.kind opens in
+            let nj = not_close b.kind rows.closes in
+            let go-in : Transition m c (bare o) (numbered l i).to (numbered l j).from a.cost (Opens a.label) = bracket_goes o a row_is (Opens a.label) (effect_open a opens) ni.0 ni.1 (numbered l i).to (numbered l j).from (ap (λ (z : Place). mode z) fi.2) (subst (λ (n : ℕ). n < c.moments) (sym (ap (λ (z : Place). moment z) fi.2)) there) (fj.1 ∙ ap (λ (n : ℕ). (a.to, n)) (sym (ap (λ (z : Place). moment z) fi.2))) in
+            let go-out : Transition m c (bare w) (numbered l j).to g.to b.cost (Closes a.label) = bracket_goes w b rows.closing (Closes a.label) (effect_close b rows.closes ∙ ap Closes rows.same) nj.0 nj.1 (numbered l j).to g.to (ap (λ (z : Place). mode z) fj.2) (subst (λ (n : ℕ). n < c.moments) (sym (ap (λ (z : Place). moment z) fj.2)) on.1.1) (place_eq g.to (b.to, moment (numbered l j).to) (sym rows.enters) (sym (ap (λ (z : Place). moment z) fj.2))) in
+            let si = sym (settled_is l.entries l.count i fi.0) in
+            let sj = sym (settled_is l.entries l.count j fj.0) in
+            let is : call_record m (nth_record l i) (bare o) a.cost (nth_record l j) (bare w) b.cost g.to ≡ record_of (records l) (made g (Call i j o w t)) =
+            λ z. record { from = fi.1 z; to = g.to; cost = costs z; derivation = by_call o w (moment (fi.2 z)); moves = (si z).moves ++ (bare o ∷ ((sj z).moves ++ (bare w ∷ []))) } in
+            record {
+              refers = (fi.0, fj.0);
+              makes = record {
+                candidate = subst (Candidate m c (records l)) is (call (nth_record l i) (nth_record l j) (in_logged l.entries l.count i fi.0) go-in (in_logged l.entries l.count j fj.0) go-out);
+                starts = refl;
+                ends = refl;
+                costs = refl;
+              };
+              one = refl;
+              first = λ y k d. subst (λ (z : Derivation). Lex (derivation_key (by_call o w t)) (derivation_key z)) (sym d) (lex_refl (derivation_key (by_call o w t)));
+            }
+
+      -- the earliest
+      pub call_none_by : (xs : List ℕ) → Gathered (TightAt m c l g) 64 xs → (n : ℕ) → length xs ≤ n → NoneWhile w xs n → Finds m c l g (CallsBy o w) None
+      call_none_by xs all n h old y k (t, d) = let x = call_parts o w t y k d in let f = listed xs all x in let f1 = f.1 in old f.0 (omega arith) t (moment_in x) f.2 y k d
+
+      pub call_wins_by : (xs : List ℕ) → Gathered (TightAt m c l g) 64 xs → (n : ℕ) (p : Place) (s : Source) → n < length xs → place_number c p ≡ get_or xs n 0 → moment p < c.moments → mode p ≡ a.from → NoneWhile w xs n → Wins m c l g (CallAt o w (moment p)) s → Wins m c l g (CallsBy o w) s
+      call_wins_by xs all n p s hn number_is there from old wins = wins_more m c l g (CallAt o w (moment p)) (CallsBy o w) s wins (moment p, wins.one) (λ y k q.
+          let x = call_parts o w q.0 y k q.1 in
+          let f = listed xs all x in
+          ⊎_elim
+          (λ (h : f.0 < n). absurd (old f.0 h q.0 (moment_in x) f.2 y k q.1))
+          (λ (h : n ≤ f.0). ⊎_elim
+          (λ (e : f.0 ≡ n). inl (q.1 ∙ ap (by_call o w) (sym (same_moment xs n p number_is there q.0 (moment_in x) (ap (λ (z : ℕ). get_or xs z 0) (sym e) ∙ f.2)))))
+          (λ (ne : f.0 ≡ n → ⊥). inr (later y q.0 q.1 (let up = all.ascending n f.0 (omega arith) f.1 in omega (arith, up, f.2, number_is, ap (λ (z : ℕ). z * c.moments) from))))
+          (cases_eq f.0 n))
+          (cases_lt f.0 n))
+        where
+          later : (y : Record) (t : ℕ) → y.derivation ≡ by_call o w t → moment p < t → Lex (derivation_key (derivation_of s)) (derivation_key y.derivation)
+          later y t d h = subst₂ (λ (x z : Derivation). Lex (derivation_key x) (derivation_key z)) (sym wins.one) (sym d) (inr (refl, inr (refl, inr (refl, inl h))))
+
+    -- which close rows serve
+    pub brackets : (w : ℕ) (b : Row) → slice_get c.rows w ≡ Some b → closes_to b a.label (mode g.to) ≡ true → Brackets c g o w a b
+    brackets w b e f =
+        let p1 = and_parts _ _ f in
+        let p2 = and_parts _ _ p1.1 in
+        record { opening = row_is; closing = e; opens = opens; closes = close_is _ p1.0; same = eqb-true _ _ p2.0; enters = eqb-true _ _ p2.1 }
+
+    pub no_bracket : (w : ℕ) (b : Row) → slice_get c.rows w ≡ Some b → closes_to b a.label (mode g.to) ≡ false → Finds m c l g (CallsBy o w) None
+    no_bracket w b e f y k (t, d) =
+        let x = call_parts o w t y k d in
+        let z = close_kind b.kind x.bracket b.label (bracket_does w b e x.closes) in
+        let to = bracket_enters w b e (closes_not_quiet x.bracket) x.closes in
+        both_ways _ f (and_from _ _ (ap is_close z.0) (and_from _ _ (eq-eqb _ _ (sym z.1 ∙ bracket_is x)) (eq-eqb _ _ (sym (ap (λ (q : Place). mode q) to)))))
+
+-- a call's rows, in their order
+module _ (m : Meaning) (c : Content) (l : Log) (g : Goal) where
+  pub no_close : (o w : ℕ) → slice_get c.rows w ≡ None → Finds m c l g (CallsBy o w) None
+  no_close o w e y k (t, d) = let x : CallParts m c l g o w t = call_of o w t k.candidate k.starts k.ends k.costs d in none_some _ _ e x.closes.found
+
+  pub no_open : (o : ℕ) → ((a : Row) → slice_get c.rows o ≡ Some a → a.kind ≡ Open → ⊥) → Finds m c l g (CallsOpened o) None
+  no_open o none y k (w, (t, d)) =
+      let x : CallParts m c l g o w t = call_of o w t k.candidate k.starts k.ends k.costs d in
+      none x.opens.by x.opens.found (open_kind x.opens.by.kind x.bracket x.opens.by.label x.opens.does)
+    where
+      open_kind : (k : RowKind) (n u : ℕ) → Opens n ≡ effect_of k u → k ≡ Open
+      open_kind PlainRow n u e = absurd cc
+      open_kind Open n u e = refl
+      open_kind Close n u e = absurd cc
+      open_kind End n u e = absurd cc
+
+  abbrev pub NoCloseBelow : ℕ → ℕ → Type 0
+  NoCloseBelow o n = (i : ℕ) → i < n → Finds m c l g (CallsBy o i) None
+
+  pub no_close_more : (o n : ℕ) → NoCloseBelow o n → Finds m c l g (CallsBy o n) None → NoCloseBelow o (n + 1)
+  no_close_more o n old new i h = ⊎_elim (λ (e : i ≡ n). subst (λ (j : ℕ). Finds m c l g (CallsBy o j) None) (sym e) new) (λ (w : i ≡ n → ⊥). old i (omega arith)) (cases_eq i n)
+
+  pub no_close_left : (o n : ℕ) → length c.rows ≤ n → NoCloseBelow o n → Finds m c l g (CallsOpened o) None
+  no_close_left o n h old y k (w, (t, d)) =
+      let x : CallParts m c l g o w t = call_of o w t k.candidate k.starts k.ends k.costs d in
+      let r = goes_row x.closes in
+      old w (omega arith) y k (t, d)
+
+  pub first_close : (o n : ℕ) (s : Source) → NoCloseBelow o n → Wins m c l g (CallsBy o n) s → Wins m c l g (CallsOpened o) s
+  first_close o n s old w = wins_more m c l g (CallsBy o n) (CallsOpened o) s w (n, w.one) (λ y k q. ⊎_elim
+      (λ (h : q.0 < n). absurd (old q.0 h y k q.1))
+      (λ (h : n ≤ q.0). ⊎_elim
+      (λ (e : q.0 ≡ n). inl (q.1.0, q.1.1 ∙ ap (λ (z : ℕ). by_call o z q.1.0) e))
+      (λ (ne : q.0 ≡ n → ⊥). inr (subst₂ (λ (x z : Derivation). Lex (derivation_key x) (derivation_key z)) (sym w.one.1) (sym q.1.1) (inr (refl, inr (refl, inl (omega arith))))))
+      (cases_eq q.0 n))
+      (cases_lt q.0 n))
+
+  abbrev pub NoOpenBelow : ℕ → Type 0
+  NoOpenBelow n = (i : ℕ) → i < n → Finds m c l g (CallsOpened i) None
+
+  pub no_open_more : (n : ℕ) → NoOpenBelow n → Finds m c l g (CallsOpened n) None → NoOpenBelow (n + 1)
+  no_open_more n old new i h = ⊎_elim (λ (e : i ≡ n). subst (λ (j : ℕ). Finds m c l g (CallsOpened j) None) (sym e) new) (λ (w : i ≡ n → ⊥). old i (omega arith)) (cases_eq i n)
+
+  pub no_open_left : (n : ℕ) → length c.rows ≤ n → NoOpenBelow n → Finds m c l g Calls None
+  no_open_left n h old y k (o, (w, (t, d))) =
+      let x : CallParts m c l g o w t = call_of o w t k.candidate k.starts k.ends k.costs d in
+      let r = goes_row x.opens in
+      old o (omega arith) y k (w, (t, d))
+
+  pub first_open : (n : ℕ) (s : Source) → NoOpenBelow n → Wins m c l g (CallsOpened n) s → Wins m c l g Calls s
+  first_open n s old w = wins_more m c l g (CallsOpened n) Calls s w (n, w.one) (λ y k q. ⊎_elim
+      (λ (h : q.0 < n). absurd (old q.0 h y k q.1))
+      (λ (h : n ≤ q.0). ⊎_elim
+      (λ (e : q.0 ≡ n). inl (q.1.0, (q.1.1.0, q.1.1.1 ∙ ap (λ (z : ℕ). by_call z q.1.0 q.1.1.0) e)))
+      (λ (ne : q.0 ≡ n → ⊥). inr (subst₂ (λ (x z : Derivation). Lex (derivation_key x) (derivation_key z)) (sym w.one.1.1) (sym q.1.1.1) (inr (refl, inl (omega arith)))))
+      (cases_eq q.0 n))
+      (cases_lt q.0 n))

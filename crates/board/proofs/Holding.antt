@@ -15,7 +15,7 @@ use Rattle.board.specs.Boards.{settled_content, settled_records, entry_record}
 use Rattle.board.specs.Entries.{EntryIn}
 use Rattle.board.specs.Computing.{joins?, record_between}
 use Rattle.board.proofs.Finding.{joins_parts}
-use Rattle.board.proofs.Growing.{place_below, number_in}
+use Rattle.board.proofs.Numbers.{place_below, number_in}
 use Rattle.board.proofs.Membership.{some_eq, none_some}
 use Rattle.board.proofs.Promised.{settling_computed}
 

@@ -16,7 +16,7 @@ lex_trans (a ∷ x) (b ∷ y) (d ∷ z) (inl h) (inr g) = inl (omega (arith, g.0
 lex_trans (a ∷ x) (b ∷ y) (d ∷ z) (inr h) (inl g) = inl (omega (arith, h.0))
 lex_trans (a ∷ x) (b ∷ y) (d ∷ z) (inr h) (inr g) = inr (h.0 ∙ g.0, lex_trans x y z h.1 g.1)
 
-lex_refl : (x : List ℕ) → Lex x x
+pub lex_refl : (x : List ℕ) → Lex x x
 lex_refl [] = tt
 lex_refl (a ∷ x) = inr (refl, lex_refl x)
 

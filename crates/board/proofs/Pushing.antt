@@ -1,24 +1,16 @@
 -- Settling one record more.
-use Rattle.std.proofs.Common.{◌≡◌, ℕ, zero, suc, ◌+◌, ◌<◌, ◌≤◌, min, ◌≢◌, ◌⊎◌, List, [], ◌∷◌, length, get_or, set, Some, None, Option, sym, refl, ap, ◌∙◌, subst, ap₂, subst₂, inl, inr, ⊎_elim, add-one, arith, length-set, get_or-set_other, get_or-set_same}
+use Rattle.std.proofs.Common.{◌≡◌, ℕ, zero, suc, ◌+◌, ◌<◌, ◌≤◌, min, ◌≢◌, List, [], ◌∷◌, length, get_or, set, Some, None, Option, sym, refl, ap, ◌∙◌, subst, ap₂, subst₂, inr, ⊎_elim, add-one, arith, length-set, get_or-set_other, get_or-set_same}
 use Rattle.std.proofs.lemmas.Bool.{cases_eq}
 use Rattle.costs.specs.Meaning.{Meaning}
-use Rattle.board.specs.Moves.{Place, Transition}
-use Rattle.board.specs.declared.moves.Move.{Move}
-use Rattle.board.specs.declared.moves.Effect.TheVariants.{Opens, Closes}
 use Rattle.board.specs.Content.{Content}
-use Rattle.board.specs.Settling.{In, Record, step_record, call_record, bare, Candidate, step, call}
+use Rattle.board.specs.Settling.{Record, Candidate, step, call}
 use Rattle.board.proofs.Membership.{some_eq, none_some}
-use Rattle.board.proofs.Uniqueness.{bracket_alone, opens_not_quiet, closes_not_quiet}
 use Rattle.board.specs.declared.log.Entry.{Entry}
-use Rattle.board.specs.declared.log.Source.{Source}
-use Rattle.board.specs.declared.log.Source.TheVariants.{Start, Step, Call}
 use Rattle.board.specs.declared.log.Log.{Log}
-use Rattle.board.specs.Logged.{pair_of, spelled, record_of, logged, blank}
-use Rattle.board.specs.Grown.{Refers, Offers, BestOk, Stepped, Called}
-use Rattle.board.specs.Logs.{records, numbered, filled, Kept, Book, Ready, BestKept, Grows, nth_record, Uses, pushed, State}
-use Rattle.board.proofs.Logging.{logged_in, logged_push, logged_set, record_stays}
-use Rattle.board.proofs.Growing.{pair_in}
-use Rattle.board.proofs.Stepping.{move_is}
+use Rattle.board.specs.Logged.{Refers, pair_of, spelled, record_of, logged, blank}
+use Rattle.board.specs.Logs.{records, numbered, filled, Kept, Book, Ready, nth_record, pushed}
+use Rattle.board.proofs.Logging.{logged_push, logged_set}
+use Rattle.board.proofs.Numbers.{pair_in}
 
 -- how many pairs have a number
 pub filled_most : (xs : List (Option ℕ)) → filled xs ≤ length xs
@@ -44,38 +36,12 @@ pub candidate_stays : {m : Meaning} {c : Content} {log : List Record} (z : Recor
 candidate_stays z (step a i g) = step a (inr i) g
 candidate_stays z (call a b i g j h) = call a b (inr i) g (inr j) h
 
-refers_stays : (n : ℕ) (s : Source) → Refers n s → Refers (suc n) s
-refers_stays n Start h = h
-refers_stays n (Step i v) h = omega arith
-refers_stays n (Call i j o w t) h = (let k = h.0 in omega arith, let k = h.1 in omega arith)
-
-offers_stays : {m : Meaning} {c : Content} {log : List Record} (z : Record) (r : Entry) → Offers m c log r → Offers m c (z ∷ log) r
-offers_stays {m} {c} {log} z r o = record {
-  refers = refers_stays (length log) r.source o.refers;
-  candidate = subst (Candidate m c (z ∷ log)) (sym (record_stays z log r o.refers)) (candidate_stays z o.candidate);
-}
-
--- the call of a candidate, by rows
-called_of : {m : Meaning} {c : Content} (a b : Record) {o w : Move} {q : Place} {k l n : ℕ} → Transition m c o a.to b.from k (Opens n) → Transition m c w b.to q l (Closes n) → Called m c a b o.row w.row (call_record m a o k b w l q)
-called_of {m} {c} a b {o} {w} {q} {k} {l} {n} g h =
-    let eo : o ≡ bare o.row = move_is o o.row None refl (bracket_alone (opens_not_quiet n) g).0 in
-    let ew : w ≡ bare w.row = move_is w w.row None refl (bracket_alone (closes_not_quiet n) h).0 in
-    record {
-      q = q;
-      k = k;
-      l = l;
-      n = n;
-      opens = subst (λ (v : Move). Transition m c v a.to b.from k (Opens n)) eo g;
-      closes = subst (λ (v : Move). Transition m c v b.to q l (Closes n)) ew h;
-      is = ap₂ (λ (v u : Move). call_record m a v k b u l q) eo ew;
-    }
-
 -- a fresh record pushed
 module _ {m : Meaning} {c : Content} {l : Log} (ready : Ready m c l) {p : ℕ} {r : Entry} (at : p ≡ pair_of c r.from r.to) (unsettled : get_or l.index (pair_of c r.from r.to) None ≡ None) (kept : Kept m c r) (refers : Refers l.count r.source) {n : ℕ} (n-is : n ≡ min (length (spelled (records l) r.source)) 65536) where
   fresh : get_or l.index p None ≡ None
   fresh = ap (λ (q : ℕ). get_or l.index q None) at ∙ unsettled
 
-  pair_here : p < length l.index
+  pub pair_here : p < length l.index
   pair_here = let h = pair_in c r.from r.to ready.sound.few_places kept.from_on kept.to_on in omega (arith, ready.book.index_long)
 
   pub room_here : l.count < 4096
@@ -84,22 +50,22 @@ module _ {m : Meaning} {c : Content} {l : Log} (ready : Ready m c l) {p : ℕ} {
   count_here : l.count < length l.entries
   count_here = let h = room_here in omega (arith, ready.book.long)
 
-  pushed_records : records (pushed l p r n) ≡ record_of (records l) r ∷ records l
+  pub pushed_records : records (pushed l p r n) ≡ record_of (records l) r ∷ records l
   pushed_records = ap (logged (set l.entries l.count r)) (add-one l.count) ∙ logged_push l.entries l.count r count_here
 
-  numbered_new : numbered (pushed l p r n) l.count ≡ r
+  pub numbered_new : numbered (pushed l p r n) l.count ≡ r
   numbered_new = get_or-set_same l.entries l.count r blank count_here
 
-  numbered_old : (i : ℕ) → i < l.count → numbered (pushed l p r n) i ≡ numbered l i
+  pub numbered_old : (i : ℕ) → i < l.count → numbered (pushed l p r n) i ≡ numbered l i
   numbered_old i h = let ne : i ≢ l.count = omega arith in get_or-set_other l.entries l.count i r blank ne
 
-  place_new : nth_record (pushed l p r n) l.count ≡ record_of (records l) r
+  pub place_new : nth_record (pushed l p r n) l.count ≡ record_of (records l) r
   place_new = ap₂ (λ (e : List Record) (x : Entry). record_of e x) (logged_set l.entries l.count l.count r (omega arith)) numbered_new
 
   lengths_here : l.count < length l.lengths
   lengths_here = let h = room_here in omega (arith, ready.book.lengths_long)
 
-  place_old : (i : ℕ) → i < l.count → nth_record (pushed l p r n) i ≡ nth_record l i
+  pub place_old : (i : ℕ) → i < l.count → nth_record (pushed l p r n) i ≡ nth_record l i
   place_old i h = ap₂ (λ (e : List Record) (x : Entry). record_of e x) (logged_set l.entries i l.count r (omega arith)) (numbered_old i h)
 
   -- by whether a number is the new one
@@ -112,7 +78,7 @@ module _ {m : Meaning} {c : Content} {l : Log} (ready : Ready m c l) {p : ℕ} {
   pair_at : Entry → ℕ
   pair_at x = pair_of c x.from x.to
 
-  pushed_ready : Ready m c (pushed l p r n)
+  pub pushed_ready : Ready m c (pushed l p r n)
   unfolding pair_at
   pushed_ready = record {
     sound = ready.sound;
@@ -138,35 +104,6 @@ module _ {m : Meaning} {c : Content} {l : Log} (ready : Ready m c l) {p : ℕ} {
     };
   }
 
-  pushed_ok : {best : List (Option Entry)} → BestKept m c l best → BestKept m c (pushed l p r n) best
-  pushed_ok {best} ok = subst (λ (e : List Record). BestOk m c e best) (sym pushed_records) (record { long = ok.long; offers = λ q x e. offers_stays (record_of (records l) r) x (ok.offers q x e); placed = ok.placed })
-
-  -- where a record of the new log stands
-  stands_at : (b : Record) → In b (record_of (records l) r ∷ records l) → (j : ℕ) × (j < l.count + 1) × (b ≡ nth_record (pushed l p r n) j)
-  stands_at b h = logged_in (set l.entries l.count r) (l.count + 1) b (subst (In b) (sym pushed_records) h)
-
-  new_is : (a : Record) → a ≡ record_of (records l) r → a ≡ nth_record (pushed l p r n) l.count
-  new_is a e = e ∙ sym place_new
-
-  -- a candidate was one before, or uses the new record
-  uses_new : {y : Record} → Candidate m c (record_of (records l) r ∷ records l) y → Candidate m c (records l) y ⊎ Uses m c (pushed l p r n) l.count y
-  uses_new (step a {v} {q} {k} (inl e) g) = inr (inl (v, subst (λ (z : Record). Stepped m c z v (step_record m a v q k)) (new_is a e) (record { q = q; k = k; goes = g; is = refl })))
-  uses_new (step a (inr i) g) = inl (step a i g)
-  uses_new (call a b {o} {w} {q} {k} {l = d} {n} (inl e) g j h) =
-      let s = stands_at b j in
-      inr (inr (o.row, inl (s.0, s.1, (w.row, subst₂ (λ (x z : Record). Called m c x z o.row w.row (call_record m a o k b w d q)) (new_is a e) s.2 (called_of a b g h)))))
-  uses_new (call a b {o} {w} {q} {k} {l = d} {n} (inr i) g (inl e) h) =
-      let s = stands_at a (inr i) in
-      inr (inr (o.row, inr (s.0, s.1, (w.row, subst₂ (λ (x z : Record). Called m c x z o.row w.row (call_record m a o k b w d q)) s.2 (new_is b e) (called_of a b g h)))))
-  uses_new (call a b (inr i) g (inr j) h) = inl (call a b i g j h)
-
-  pushed_state : {best best' : List (Option Entry)} → State m c l best → Grows m c (pushed l p r n) best best' (Uses m c (pushed l p r n) l.count) → State m c (pushed l p r n) best'
-  pushed_state {best} {best'} s grown = record {
-    ready = pushed_ready;
-    ok = grown.ok;
-    whole = λ y k. ⊎_elim (λ k'. grown.better y k (s.whole y k')) (λ u. grown.covers y k u) (uses_new (subst (λ (e : List Record). Candidate m c e y) pushed_records k));
-  }
-
   -- the log that the push leaves
   module _ {new : Log} (is : new ≡ pushed l p r n) where
     pub new_records : records new ≡ record_of (records l) r ∷ records l
@@ -174,9 +111,3 @@ module _ {m : Meaning} {c : Content} {l : Log} (ready : Ready m c l) {p : ℕ} {
 
     pub new_book : Book m c new
     new_book = subst (Book m c) (sym is) pushed_ready.book
-
-    pub new_ok : {best : List (Option Entry)} → BestKept m c l best → BestKept m c new best
-    new_ok {best} ok = subst (λ (x : Log). BestKept m c x best) (sym is) (pushed_ok ok)
-
-    pub new_state : {best best' : List (Option Entry)} → State m c l best → Grows m c new best best' (Uses m c new l.count) → State m c new best'
-    new_state {best} {best'} s grown = subst (λ (x : Log). State m c x best') (sym is) (pushed_state s (subst (λ (x : Log). Grows m c x best best' (Uses m c x l.count)) is grown))

@@ -3,17 +3,16 @@ use Rattle.std.proofs.Common.{◌≡◌, ℕ, zero, suc, ◌<◌, List, [], ◌+
 use lib.ListN.{length-replicate}
 use Rattle.costs.specs.Meaning.{Meaning}
 use Rattle.board.specs.Moves.{Place, moment, mode}
-use Rattle.board.specs.Content.{Content, Sound}
+use Rattle.board.specs.Content.{Content}
 use Rattle.board.specs.Settling.{In, Record, starts, places, moments_of, Candidate, step, call}
 use Rattle.board.proofs.Diagonal.{started_in, moments_on, places_on}
 use Rattle.board.proofs.Membership.{in_split, none_some}
 use Rattle.board.proofs.Uniqueness.{number_eq}
-use Rattle.board.specs.declared.log.Entry.{Entry}
 use Rattle.board.specs.declared.log.Log.{Log}
 use Rattle.board.specs.Logged.{pair_of, blank}
-use Rattle.board.specs.Logs.{records, numbered, nth_record, filled, Book, Ready, State, empty}
+use Rattle.board.specs.Logs.{records, numbered, nth_record, filled, Book, Ready, empty}
 use Rattle.board.proofs.Logging.{logged_none, in_logged}
-use Rattle.board.proofs.Growing.{pair_parts}
+use Rattle.board.proofs.Numbers.{pair_parts}
 
 none_at : (A : Type 0) (n p : ℕ) → ◌≡◌ {A = Option A} (get_or (replicate n None) p None) None
 none_at A zero p = refl
@@ -43,17 +42,6 @@ empty_book m c = record {
   lengths_long = length-replicate {A = ℕ} 4096 0;
   earlier = λ i h. absurd (omega arith);
   lengths_are = λ i h. absurd (omega arith);
-}
-
-pub empty_state : {m : Meaning} {c : Content} → Sound m c → State m c empty (replicate 4096 None)
-empty_state {m} {c} d = record {
-  ready = record { sound = d; book = empty_book m c };
-  ok = record {
-    long = length-replicate {A = Option Entry} 4096 None;
-    offers = λ p r e. absurd (none_some _ _ (none_at Entry 4096 p) e);
-    placed = λ p r e. absurd (none_some _ _ (none_at Entry 4096 p) e);
-  };
-  whole = λ y k. absurd (no_candidate empty_records k);
 }
 
 -- a place of the diagonal that has not come yet

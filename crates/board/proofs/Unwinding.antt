@@ -6,13 +6,12 @@ use Rattle.board.specs.declared.log.Log.{Log}
 use Rattle.board.specs.declared.log.Source.TheVariants.{Step, Call}
 use Rattle.board.specs.declared.moves.Move.{Move}
 use Rattle.board.specs.Settling.{Record, bare}
-use Rattle.board.specs.Logged.{spelled, logged}
+use Rattle.board.specs.Logged.{Refers, spelled, logged}
 use Rattle.board.specs.Logs.{numbered}
 use Rattle.board.specs.Spelled.{Spells, moves_at}
 use Rattle.std.specs.List.{flat_map}
 use Rattle.std.proofs.lemmas.Grind.{flat_map-append}
 use Rattle.board.specs.Cursors.{opened}
-use Rattle.board.specs.Grown.{Refers}
 use Rattle.board.proofs.Logging.{settled_is}
 
 -- an entry's length is kept, its front and inside are earlier, and its moves are theirs with its own

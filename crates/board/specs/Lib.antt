@@ -19,10 +19,11 @@ pub mod Boards
 pub mod Examples
 -- What only inner functions and proofs name, but for `records` of Logs, by which Boards says what a settled board holds.
 pub mod Checkers
-pub mod Offered
-pub mod Grown
+pub mod Lowering
+pub mod Minima
+pub mod Minimizing
+pub mod Winning
 pub mod Logs
-pub mod Offering
 pub mod Spelled
 pub mod Cursors
 pub mod Entries

@@ -1,5 +1,5 @@
 -- The log that an array of entries stands for.
-use Rattle.std.specs.Prelude.{ℕ, zero, suc, ◌+◌, ◌*◌, cond, List, [], ◌∷◌, ◌++◌, length, ◌==◌, slice_index_or}
+use Rattle.std.specs.Prelude.{ℕ, zero, suc, ◌+◌, ◌*◌, ◌<◌, cond, List, [], ◌∷◌, ◌++◌, length, ◌==◌, slice_index_or}
 use Rattle.board.specs.declared.moves.Move.{Move}
 use Rattle.board.specs.Moves.{origin, Place, place_number}
 use Rattle.board.specs.Settling.{Record, Derivation, start, by_step, by_call, bare}
@@ -22,6 +22,12 @@ abbrev pub derivation_of : Source → Derivation
 derivation_of Start = start
 derivation_of (Step i v) = by_step v
 derivation_of (Call i j o w t) = by_call o w t
+
+-- what a source refers to stands among the first n
+abbrev pub Refers : ℕ → Source → Type 0
+Refers n Start = Unit {0}
+Refers n (Step i v) = i < n
+Refers n (Call i j o w t) = (i < n) × (j < n)
 
 -- the moves of an entry with this source, over the log of the entries before it
 abbrev pub spelled : List Record → Source → List Move

@@ -3,7 +3,7 @@ use Rattle.std.specs.Prelude.{◌≡◌, ℕ, ◌<◌, ◌≤◌, min, List, len
 use Rattle.board.specs.declared.moves.Move.{Move}
 use Rattle.board.specs.Settling.{bare}
 use Rattle.board.specs.declared.log.Log.{Log}
-use Rattle.board.specs.Grown.{Refers}
+use Rattle.board.specs.Logged.{Refers}
 use Rattle.board.specs.Logs.{numbered, nth_record}
 
 -- each record refers to earlier ones, and the lengths are right as far as 65,536

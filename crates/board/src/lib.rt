@@ -3,7 +3,6 @@
 
 mod check;
 mod checker;
-mod costed;
 mod cursor;
 mod draft;
 mod log;

@@ -35,16 +35,6 @@ pub(crate) struct Log {
     pub lengths: [u32; 4096],
 }
 
-// A call as far as its inside: the entries of its front and inside, the open row, its bracket, and what they cost.
-#[derive(Clone, Copy)]
-pub(crate) struct Opening {
-    pub front: usize,
-    pub inside: usize,
-    pub row: u8,
-    pub bracket: u8,
-    pub cost: u32,
-}
-
 // Where an open row leads, at what cost, and its bracket.
 #[derive(Clone, Copy)]
 pub(crate) struct Way {

@@ -1,8 +1,7 @@
 // Reading and extending the log.
 ghost use Rattle.std.specs.Prelude.{◌≡◌, ℕ, ◌<◌, ◌≤◌, min, length, None as ANone, slice_index, slice_index_or};
 ghost use Rattle.board.specs.Logs.{pushed, records, empty};
-ghost use Rattle.board.specs.Logged.{spelled, record_at};
-ghost use Rattle.board.specs.Grown.{Refers};
+ghost use Rattle.board.specs.Logged.{Refers, spelled, record_at};
 
 use crate::log::{Entry, Log, Source};
 

@@ -80,7 +80,7 @@ impl<K: Kind> Tables<K> {
     pub(crate) fn named(&self, v: Move) -> Option<Named>
         ensures { result ≡ named (held self.now) v }
     {
-        let row = self.rows.get(v.row as usize).copied()?;
+        let row = self.row(v.row)?;
         let Some(number) = v.line else {
             return if row.takes_line() {
                 None
@@ -88,7 +88,7 @@ impl<K: Kind> Tables<K> {
                 Some(Named { row, line: None })
             };
         };
-        let line = self.lines.get(number as usize).copied()?;
+        let line = self.line(number)?;
         if row.takes_line() && line.event == row.label {
             Some(Named {
                 row,

@@ -4,9 +4,8 @@ ghost use Rattle.board.specs.Boards.{settled_content, settled_records, entry_rec
 ghost use Rattle.board.specs.Computing.{record_between, reading_at, found};
 ghost use Rattle.board.specs.Entries.{EntryIn, ReadingIn};
 
-use crate::costed::better;
 use crate::moves::{Move, Place};
-use crate::reading::Reading;
+use crate::reading::{Reading, better};
 use crate::settled::Settled;
 use costs::Kind;
 
@@ -46,7 +45,7 @@ impl<K: Kind> Settled<K> {
         for (n, row) in self.tables.rows.iter().enumerate() {
             for moment in 0..self.tables.moments {
                 let next = self.reading_at(n as u8, (row.from, moment));
-                best = better::<K, _>(best, next);
+                best = better::<K>(best, next);
             }
         }
         best

@@ -1,146 +1,158 @@
-// Offering the calls that use an entry.
-ghost use Rattle.std.specs.Prelude.{◌<◌};
+// Finding the call that makes a goal.
+ghost use Rattle.std.specs.Prelude.{◌≡◌, ◌<◌, length, false, Some as ASome, None as ANone};
+ghost use Rattle.costs.specs.Meaning.{Cost};
+ghost use Rattle.board.specs.declared.row.RowKind.TheVariants.{Open};
 ghost use Rattle.board.specs.Held.{held};
-ghost use Rattle.board.specs.Logs.{Opened, CallBy, CallsIn, CallsFrom, CallsAround, OpensWay, CallsWith, Uses};
-ghost use Rattle.board.specs.Offering.{BestOf, Grew};
+ghost use Rattle.board.specs.Moves.{move_row};
+ghost use Rattle.board.specs.Lowering.{Bounds};
+ghost use Rattle.board.specs.Minima.{Closing, Link};
+ghost use Rattle.board.specs.Minimizing.{ClosingsOf, LinksOf};
+ghost use Rattle.board.specs.Winning.{GoalOn, FindsOf, CallAt, CallsBy, CallsOpened, Calls, TightOf, Brackets, closes_to};
 
-use crate::log::{Entry, Opening, Source, Way};
-use crate::moves::{Effect, Move, Place};
-use crate::settling::Known;
-use crate::settling::offer::offer;
-use crate::tables::Tables;
+use crate::log::Source;
+use crate::row::{Row, RowKind};
+use crate::settling::closings::closing_number;
+use crate::settling::{Goal, Known};
 use costs::Kind;
 
-// Where an open row leads from a place.
-pub(crate) fn opens<K: Kind>(t: &Tables<K>, row: u8, place: Place) -> Option<Way>
-    ensures { OpensWay K.meaning (held t.now) row place result }
-{
-    let h = t.arrival(Move { row, line: None }, place)?;
-    let Effect::Opens(bracket) = h.effect else {
-        return None;
-    };
-    Some(Way {
-        to: h.to,
-        cost: h.cost,
-        bracket,
-    })
+impl Row {
+    // Whether it closes the bracket and leads to the mode.
+    fn closes_to(&self, bracket: u8, mode: u8) -> bool
+        ensures { result ≡ closes_to self.now bracket mode }
+    {
+        match self.kind {
+            RowKind::Close => self.label == bracket && self.to == mode,
+            RowKind::Plain | RowKind::Open | RowKind::End => false,
+        }
+    }
 }
 
 impl<K: Kind> Known<'_, K> {
-    // The call that the row closes.
-    pub(crate) fn offer_close(&self, o: Opening, row: u8, best: &mut [Option<Entry>])
-        requires opened { Opened K.meaning (held self.now.tables.now) self.now.log.now o }
-        requires ok { BestOf K.meaning self.now best.old }
-        ensures { Grew K.meaning self.now best.old best.new (λ m c l. CallBy m c l o.front o.inside o.row row) }
+    // The call by the open row a and the close row b, of these numbers, that opens at the moment.
+    fn call_at(&self, goal: Goal, o: u8, a: Row, w: u8, b: Row, moment: u8) -> Option<Source>
+        requires on { GoalOn (held self.now.tables.now) goal }
+        requires rows { Brackets (held self.now.tables.now) goal o w a b }
+        requires moment { moment < (held self.now.tables.now).moments }
+        ensures { FindsOf K.meaning self.now goal (CallAt o w moment) result }
     {
-        let b = self.log.entries[o.inside];
-        if let Some(h) = self.tables.arrival(Move { row, line: None }, b.to) {
-            if let Effect::Closes(n) = h.effect {
-                if n == o.bracket {
-                    let a = self.log.entries[o.front];
-                    let r = Entry {
-                        from: a.from,
-                        to: h.to,
-                        cost: K::join(o.cost, h.cost),
-                        source: Source::Call(o.front as u16, o.inside as u16, o.row, row, a.to.1),
-                    };
-                    offer::<K>(best, self.tables.pair(r.from, r.to), r);
+        let Some(i) = self.log.at(self.tables.pair(goal.from, (a.from, moment))) else {
+            return None;
+        };
+        let inside = self.tables.pair((a.to, moment), (b.from, goal.to.1));
+        let Some(j) = self.log.at(inside) else {
+            return None;
+        };
+        let cost = K::join(
+            K::join(self.log.entries[i].cost, a.cost),
+            self.log.entries[j].cost,
+        );
+        if K::join(cost, b.cost) != goal.cost {
+            return None;
+        }
+        Some(Source::Call(i as u16, j as u16, o, w, moment))
+    }
+
+    // The earliest call by the two rows.
+    fn call_by(&self, goal: Goal, o: u8, a: Row, w: u8, b: Row, tight: &[u8]) -> Option<Source>
+        requires on { GoalOn (held self.now.tables.now) goal }
+        requires rows { Brackets (held self.now.tables.now) goal o w a b }
+        requires tight { TightOf K.meaning self.now goal tight.now }
+        ensures { FindsOf K.meaning self.now goal (CallsBy o w) result }
+    {
+        for n in 0..tight.len() {
+            let place = self.tables.place(tight[n] as usize);
+            if place.0 == a.from {
+                if let Some(call) = self.call_at(goal, o, a, w, b, place.1) {
+                    return Some(call);
                 }
             }
         }
+        None
     }
 
-    // Each call with this opening.
-    pub(crate) fn offer_closes(&self, o: Opening, best: &mut [Option<Entry>])
-        requires opened { Opened K.meaning (held self.now.tables.now) self.now.log.now o }
-        requires ok { BestOf K.meaning self.now best.old }
-        ensures { Grew K.meaning self.now best.old best.new (λ m c l. CallsIn m c l o.front o.inside o.row) }
+    // Whether a call that the open row a opens may make the goal.
+    fn reaches(&self, goal: Goal, o: u8, a: Row, closings: &[u32], tight: &[u8]) -> bool
+        requires on { GoalOn (held self.now.tables.now) goal }
+        requires cost { Cost K.meaning goal.cost }
+        requires row { move_row (held self.now.tables.now) o ≡ ASome a }
+        requires opens { a.kind ≡ Open }
+        requires closings { ClosingsOf K.meaning self.now closings.now }
+        requires bounds { Bounds K.meaning (Closing K.meaning (held self.now.tables.now) self.now.log.now) closings.now }
+        requires tight { TightOf K.meaning self.now goal tight.now }
+        ensures { result ≡ false → FindsOf K.meaning self.now goal (CallsOpened o) ANone }
     {
-        let rows = self.tables.rows.len() as u8;
-        for row in 0..rows {
-            self.offer_close(o, row, best);
-        }
-    }
-
-    // Each call from the entry i that the row opens.
-    pub(crate) fn offer_insides(&self, i: usize, row: u8, best: &mut [Option<Entry>])
-        requires within { i < self.now.log.now.count }
-        requires ok { BestOf K.meaning self.now best.old }
-        ensures { Grew K.meaning self.now best.old best.new (λ m c l. CallsFrom m c l i row) }
-    {
-        let a = self.log.entries[i];
-        let Some(w) = opens(self.tables, row, a.to) else {
-            return;
-        };
-        let cost = K::join(a.cost, w.cost);
-        let start = self.tables.place_number(w.to);
-        for u in 0..64 {
-            if let Some(j) = self.log.at(start * 64 + u) {
-                let o = Opening {
-                    front: i,
-                    inside: j,
-                    row,
-                    bracket: w.bracket,
-                    cost: K::join(cost, self.log.entries[j].cost),
-                };
-                self.offer_closes(o, best);
+        let q = self.tables.place_number(goal.to);
+        for n in 0..tight.len() {
+            let place = self.tables.place(tight[n] as usize);
+            if place.0 == a.from {
+                if let Some(i) = self.log.at(self.tables.pair(goal.from, place)) {
+                    let entry = self.tables.place_number((a.to, place.1));
+                    let front = K::join(self.log.entries[i].cost, a.cost);
+                    let p = closing_number(entry, a.label, q);
+                    if K::no_dearer(K::join(front, closings[p]), goal.cost) {
+                        return true;
+                    }
+                }
             }
         }
+        false
     }
 
-    // Each call with the inside j that the row opens. (Not one function with `offer_insides`: this one goes back over the row
-    // to where the front ends, and the pairs are read the other way round.)
-    pub(crate) fn offer_fronts(&self, j: usize, row: u8, best: &mut [Option<Entry>])
-        requires within { j < self.now.log.now.count }
-        requires ok { BestOf K.meaning self.now best.old }
-        ensures { Grew K.meaning self.now best.old best.new (λ m c l. CallsAround m c l j row) }
+    // The first call that the open row a opens.
+    fn call_opened(
+        &self,
+        goal: Goal,
+        o: u8,
+        a: Row,
+        closings: &[u32],
+        tight: &[u8],
+    ) -> Option<Source>
+        requires on { GoalOn (held self.now.tables.now) goal }
+        requires cost { Cost K.meaning goal.cost }
+        requires row { move_row (held self.now.tables.now) o ≡ ASome a }
+        requires opens { a.kind ≡ Open }
+        requires closings { ClosingsOf K.meaning self.now closings.now }
+        requires bounds { Bounds K.meaning (Closing K.meaning (held self.now.tables.now) self.now.log.now) closings.now }
+        requires tight { TightOf K.meaning self.now goal tight.now }
+        ensures { FindsOf K.meaning self.now goal (CallsOpened o) result }
     {
-        let b = self.log.entries[j];
-        let Some(open) = self.tables.rows.get(row as usize) else {
-            return;
-        };
-        let front_end = (open.from, b.from.1);
-        let Some(w) = opens(self.tables, row, front_end) else {
-            return;
-        };
-        if w.to.0 != b.from.0 {
-            return;
+        if !self.reaches(goal, o, a, closings, tight) {
+            return None;
         }
-        let stop = self.tables.place_number(front_end);
-        for s in 0..64 {
-            if let Some(i) = self.log.at(s * 64 + stop) {
-                let o = Opening {
-                    front: i,
-                    inside: j,
-                    row,
-                    bracket: w.bracket,
-                    cost: K::join(K::join(self.log.entries[i].cost, w.cost), b.cost),
-                };
-                self.offer_closes(o, best);
+        let rows = self.tables.rows.len() as u8;
+        for w in 0..rows {
+            if let Some(b) = self.tables.row(w) {
+                if b.closes_to(a.label, goal.to.0) {
+                    if let Some(call) = self.call_by(goal, o, a, w, b, tight) {
+                        return Some(call);
+                    }
+                }
             }
         }
+        None
     }
 
-    // Each call that uses the entry i, as its front or as its inside.
-    pub(crate) fn offer_calls(&self, i: usize, best: &mut [Option<Entry>])
-        requires within { i < self.now.log.now.count }
-        requires ok { BestOf K.meaning self.now best.old }
-        ensures { Grew K.meaning self.now best.old best.new (λ m c l. CallsWith m c l i) }
+    // The first call of all.
+    pub(crate) fn first_call(&self, goal: Goal, closings: &[u32], links: &[u32]) -> Option<Source>
+        requires on { GoalOn (held self.now.tables.now) goal }
+        requires cost { Cost K.meaning goal.cost }
+        requires closings { ClosingsOf K.meaning self.now closings.now }
+        requires closings_bounds { Bounds K.meaning (Closing K.meaning (held self.now.tables.now) self.now.log.now) closings.now }
+        requires links { LinksOf K.meaning self.now links.now }
+        requires links_bounds { Bounds K.meaning (Link K.meaning (held self.now.tables.now) self.now.log.now) links.now }
+        ensures { FindsOf K.meaning self.now goal Calls result }
     {
+        let tight = self.tight(goal, links);
         let rows = self.tables.rows.len() as u8;
-        for row in 0..rows {
-            self.offer_insides(i, row, best);
-            self.offer_fronts(i, row, best);
+        for o in 0..rows {
+            if let Some(a) = self.tables.row(o) {
+                if let RowKind::Open = a.kind {
+                    if let Some(call) = self.call_opened(goal, o, a, closings, &tight) {
+                        return Some(call);
+                    }
+                }
+            }
         }
-    }
-
-    // Each step and call that uses the entry i.
-    pub(crate) fn offer_all(&self, i: usize, best: &mut [Option<Entry>])
-        requires within { i < self.now.log.now.count }
-        requires ok { BestOf K.meaning self.now best.old }
-        ensures { Grew K.meaning self.now best.old best.new (λ m c l. Uses m c l i) }
-    {
-        self.offer_steps(i, best);
-        self.offer_calls(i, best);
+        None
     }
 }

@@ -1,28 +1,30 @@
 // Settling, entry by entry.
-ghost use Rattle.std.specs.Prelude.{◌≡◌, ◌+◌, ◌<◌, [], ◌∷◌, length, None as ANone, slice_index_or};
+ghost use Rattle.std.specs.Prelude.{◌≡◌, ℕ, ◌+◌, ◌<◌, [], ◌∷◌, length, None as ANone, slice_index, slice_index_or};
+ghost use Rattle.costs.specs.Meaning.{Cost};
 ghost use Rattle.board.specs.Held.{held};
 ghost use Rattle.board.specs.Settling.{Settled};
-ghost use Rattle.board.specs.Logged.{pair_of, record_of};
-ghost use Rattle.board.specs.Grown.{Refers};
-ghost use Rattle.board.specs.Logs.{State, Kept, Book, records, standing, Chosen, CostsBest, Reached, RoundMade};
+ghost use Rattle.board.specs.Logged.{Refers, pair_of, record_of};
+ghost use Rattle.board.specs.Logs.{Kept, Book, records, Reached, RoundMade};
+ghost use Rattle.board.specs.Minima.{State};
+ghost use Rattle.board.specs.Winning.{LeastOf};
 
-use crate::costed::better;
 use crate::log::{Entry, Log, Source};
-use crate::settling::{Known, Settling};
+use crate::settling::{Goal, Known, Minima, Settling};
 use crate::tables::Tables;
 use costs::Kind;
 
-// The least candidate below the worst for an unsettled pair, that of the first pair where some tie. (Log and candidates
-// apart, as it asks less of them than `state` says.)
-fn least<K: Kind>(log: &Log, best: &[Option<Entry>]) -> Option<Entry>
-    requires long { length best.now ≡ 4096 }
-    requires costs { CostsBest K.meaning best.now }
-    ensures { Chosen K.meaning (standing log.now best.now) 4096 result }
+// Of the unsettled pairs that of the least cost below the worst, the first where some tie.
+fn least_pair<K: Kind>(log: &Log, waiting: &[u32]) -> Option<usize>
+    requires long { length waiting.now ≡ 4096 }
+    requires costs { (p : ℕ) → p < 4096 → Cost K.meaning (slice_index waiting.now p) }
+    ensures { LeastOf K.meaning log.now waiting.now 4096 result }
 {
     let mut found = None;
-    for (settled, candidate) in log.index.iter().zip(best) {
-        if settled.is_none() {
-            found = better::<K, _>(found, *candidate);
+    let mut cost = K::worst();
+    for p in 0..4096 {
+        if log.at(p).is_none() && !K::no_dearer(cost, waiting[p]) {
+            found = Some(p);
+            cost = waiting[p];
         }
     }
     found
@@ -31,22 +33,28 @@ fn least<K: Kind>(log: &Log, best: &[Option<Entry>]) -> Option<Entry>
 impl Settling {
     // Nothing settled.
     fn empty<K: Kind>(tables: &Tables<K>) -> Settling
-        ensures state { State K.meaning (held tables.now) result.log result.best }
+        ensures state { State K.meaning (held tables.now) result.log result.minima }
         ensures records { records result.log ≡ [] }
     {
         Settling {
             log: Log::new(),
-            best: [None; 4096],
+            minima: Minima {
+                closings: [K::worst(); 65536],
+                links: tables.links(),
+                waiting: [K::worst(); 4096],
+                leads: tables.leads(),
+            },
         }
     }
 
-    // Settles an entry, and offers what uses it.
+    // Settles an entry, and lowers what it makes cheaper: candidates that go on from it, closings that it is inside, and the
+    // links with these.
     fn settle<K: Kind>(&mut self, tables: &Tables<K>, r: Entry)
-        requires state { State K.meaning (held tables.now) self.old.log self.old.best }
+        requires state { State K.meaning (held tables.now) self.old.log self.old.minima }
         requires fresh { slice_index_or self.old.log.index (pair_of (held tables.now) r.from r.to) ANone ≡ ANone }
         requires kept { Kept K.meaning (held tables.now) r }
         requires refers { Refers self.old.log.count r.source }
-        ensures state { State K.meaning (held tables.now) self.new.log self.new.best }
+        ensures state { State K.meaning (held tables.now) self.new.log self.new.minima }
         ensures more { records self.new.log ≡ record_of (records self.old.log) r ∷ records self.old.log }
         ensures count { self.new.log.count ≡ self.old.log.count + 1 }
     {
@@ -57,12 +65,21 @@ impl Settling {
             tables,
             log: &self.log,
         };
-        known.offer_all(n, &mut self.best);
+        let minima = &mut self.minima;
+        known.follow(n, &minima.links, &mut minima.waiting);
+        known.close(n, &mut minima.closings);
+        known.bracket(
+            n,
+            &minima.leads,
+            &minima.closings,
+            &mut minima.links,
+            &mut minima.waiting,
+        );
     }
 
-    // The diagonal settled, each place to itself, free, and what uses it offered.
+    // The diagonal settled, each place to itself, free.
     fn new<K: Kind>(tables: &Tables<K>) -> Settling
-        ensures state { State K.meaning (held tables.now) result.log result.best }
+        ensures state { State K.meaning (held tables.now) result.log result.minima }
         ensures reached { Reached K.meaning (held tables.now) (records result.log) }
     {
         let mut settling = Settling::empty(tables);
@@ -83,14 +100,31 @@ impl Settling {
 
     // Makes one round: settles the least candidate below the worst, or says that there is none.
     fn round<K: Kind>(&mut self, tables: &Tables<K>) -> bool
-        requires state { State K.meaning (held tables.now) self.old.log self.old.best }
+        requires state { State K.meaning (held tables.now) self.old.log self.old.minima }
         requires reached { Reached K.meaning (held tables.now) (records self.old.log) }
-        ensures state { State K.meaning (held tables.now) self.new.log self.new.best }
+        ensures state { State K.meaning (held tables.now) self.new.log self.new.minima }
         ensures reached { Reached K.meaning (held tables.now) (records self.new.log) }
         ensures made { RoundMade K.meaning (held tables.now) self.old.log self.new.log result }
     {
-        let Some(r) = least::<K>(&self.log, &self.best) else {
+        let minima = &self.minima;
+        let Some(pair) = least_pair::<K>(&self.log, &minima.waiting) else {
             return false;
+        };
+        let goal = Goal {
+            from: tables.place(pair / 64),
+            to: tables.place(pair % 64),
+            cost: minima.waiting[pair],
+        };
+        let known = Known {
+            tables,
+            log: &self.log,
+        };
+        let source = known.winner(goal, &minima.closings, &minima.links);
+        let r = Entry {
+            from: goal.from,
+            to: goal.to,
+            cost: goal.cost,
+            source,
         };
         self.settle(tables, r);
         true

@@ -1,50 +1,111 @@
-// Offering the steps from an entry.
-ghost use Rattle.std.specs.Prelude.{◌<◌};
-ghost use Rattle.board.specs.declared.moves.Move.{Move as AMove};
-ghost use Rattle.board.specs.Logs.{StepBy};
-ghost use Rattle.board.specs.Offering.{BestOf, Grew};
+// Finding the step that makes a goal.
+ghost use Rattle.std.specs.Prelude.{◌≡◌, ℕ, length, Some as ASome};
+ghost use Rattle.board.specs.declared.row.Row.{Row as ARow};
+ghost use Rattle.board.specs.declared.row.RowKind.TheVariants.{Plain as APlain};
+ghost use Rattle.board.specs.declared.moves.Effect.TheVariants.{Quiet};
+ghost use Rattle.board.specs.Held.{held};
+ghost use Rattle.board.specs.Moves.{Place as APlace, moment, On, Transition, move_row};
+ghost use Rattle.board.specs.Computing.{same_place};
+ghost use Rattle.board.specs.Winning.{GoalOn, FindsOf, StepOf, StepsBy, Steps, Gathered, LineTo};
 
-use crate::log::{Entry, Source};
-use crate::moves::{Effect, Move};
-use crate::settling::Known;
-use crate::settling::offer::offer;
+use crate::log::Source;
+use crate::moves::{Effect, Move, Place};
+use crate::row::{Row, RowKind};
+use crate::settling::{Goal, Known};
 use costs::Kind;
 
+// Whether the two places are one.
+fn same_place(p: Place, q: Place) -> bool
+    ensures { result ≡ same_place p q }
+{
+    p.0 == q.0 && p.1 == q.1
+}
+
 impl<K: Kind> Known<'_, K> {
-    // The step from the entry i by the move v.
-    pub(crate) fn offer_step(&self, i: usize, v: Move, best: &mut [Option<Entry>])
-        requires within { i < self.now.log.now.count }
-        requires ok { BestOf K.meaning self.now best.old }
-        ensures { Grew K.meaning self.now best.old best.new (λ m c l. StepBy m c l i v) }
+    // The step by the move from the place, from where alone it can lead to where the goal ends.
+    fn step_from(&self, goal: Goal, v: Move, place: Place) -> Option<Source>
+        requires on { GoalOn (held self.now.tables.now) goal }
+        requires place { On (held self.now.tables.now) place }
+        requires starts { (p : APlace) (k : ℕ) → Transition K.meaning (held self.now.tables.now) v p goal.to k Quiet → p ≡ place }
+        ensures { FindsOf K.meaning self.now goal (StepOf v) result }
     {
-        let a = self.log.entries[i];
-        if let Some(h) = self.tables.arrival(v, a.to) {
-            if let Effect::Quiet = h.effect {
-                let r = Entry {
-                    from: a.from,
-                    to: h.to,
-                    cost: K::join(a.cost, h.cost),
-                    source: Source::Step(i as u16, v),
-                };
-                offer::<K>(best, self.tables.pair(r.from, r.to), r);
+        let Some(i) = self.log.at(self.tables.pair(goal.from, place)) else {
+            return None;
+        };
+        let Some(h) = self.tables.arrival(v, place) else {
+            return None;
+        };
+        let Effect::Quiet = h.effect else {
+            return None;
+        };
+        if !same_place(h.to, goal.to) {
+            return None;
+        }
+        if K::join(self.log.entries[i].cost, h.cost) != goal.cost {
+            return None;
+        }
+        Some(Source::Step(i as u16, v))
+    }
+
+    // The first step by the row r, which is plain, has this number and goes with a line, along one of these lines.
+    fn step_along(&self, goal: Goal, row: u8, r: Row, lines: &[u8]) -> Option<Source>
+        requires on { GoalOn (held self.now.tables.now) goal }
+        requires row { move_row (held self.now.tables.now) row ≡ ASome r }
+        requires timed { r.label ≡ 0 → ⊥ }
+        requires plain { r.kind ≡ APlain }
+        requires lines { Gathered (LineTo (held self.now.tables.now) (moment goal.to)) (length (held self.now.tables.now).lines) lines.now }
+        ensures { FindsOf K.meaning self.now goal (StepsBy row) result }
+    {
+        for n in 0..lines.len() {
+            if let Some(line) = self.tables.line(lines[n]) {
+                if line.event == r.label {
+                    let v = Move {
+                        row,
+                        line: Some(lines[n]),
+                    };
+                    if let Some(step) = self.step_from(goal, v, (r.from, line.from)) {
+                        return Some(step);
+                    }
+                }
             }
+        }
+        None
+    }
+
+    // The first step by the row.
+    fn step_by(&self, goal: Goal, row: u8, lines: &[u8]) -> Option<Source>
+        requires on { GoalOn (held self.now.tables.now) goal }
+        requires lines { Gathered (LineTo (held self.now.tables.now) (moment goal.to)) (length (held self.now.tables.now).lines) lines.now }
+        ensures { FindsOf K.meaning self.now goal (StepsBy row) result }
+    {
+        let Some(r) = self.tables.row(row) else {
+            return None;
+        };
+        if r.to != goal.to.0 {
+            return None;
+        }
+        let RowKind::Plain = r.kind else {
+            return None;
+        };
+        if r.label == 0 {
+            self.step_from(goal, Move { row, line: None }, (r.from, goal.to.1))
+        } else {
+            self.step_along(goal, row, r, lines)
         }
     }
 
-    // All steps from the entry i.
-    pub(crate) fn offer_steps(&self, i: usize, best: &mut [Option<Entry>])
-        requires within { i < self.now.log.now.count }
-        requires ok { BestOf K.meaning self.now best.old }
-        ensures { Grew K.meaning self.now best.old best.new (λ m c l y. (v : AMove) × StepBy m c l i v y) }
+    // The first step of all.
+    pub(crate) fn first_step(&self, goal: Goal) -> Option<Source>
+        requires on { GoalOn (held self.now.tables.now) goal }
+        ensures { FindsOf K.meaning self.now goal Steps result }
     {
+        let lines = self.lines_to(goal.to.1);
         let rows = self.tables.rows.len() as u8;
-        let lines = self.tables.lines.len() as u8;
         for row in 0..rows {
-            self.offer_step(i, Move { row, line: None }, best);
-            for line in 0..lines {
-                let line = Some(line);
-                self.offer_step(i, Move { row, line }, best);
+            if let Some(step) = self.step_by(goal, row, &lines) {
+                return Some(step);
             }
         }
+        None
     }
 }

@@ -1,0 +1,52 @@
+// Which lines and places may serve a goal.
+ghost use Rattle.std.specs.Prelude.{length};
+ghost use Rattle.costs.specs.Meaning.{Cost};
+ghost use Rattle.board.specs.Held.{held};
+ghost use Rattle.board.specs.Lowering.{Bounds};
+ghost use Rattle.board.specs.Minima.{Link};
+ghost use Rattle.board.specs.Minimizing.{LinksOf};
+ghost use Rattle.board.specs.Winning.{GoalOn, Gathered, LineTo, TightOf};
+
+use crate::settling::{Goal, Known};
+use arrayvec::ArrayVec;
+use costs::Kind;
+
+impl<K: Kind> Known<'_, K> {
+    // The lines that enter the moment, in order.
+    pub(crate) fn lines_to(&self, moment: u8) -> ArrayVec<u8, 128>
+        ensures { Gathered (LineTo (held self.now.tables.now) moment) (length (held self.now.tables.now).lines) result.items }
+    {
+        let mut found = ArrayVec::new();
+        let lines = self.tables.lines.len() as u8;
+        for number in 0..lines {
+            if let Some(line) = self.tables.line(number) {
+                if line.to == moment {
+                    found.push(number);
+                }
+            }
+        }
+        found
+    }
+
+    // The places, by their numbers and in order, from which a link may make the goal.
+    pub(crate) fn tight(&self, goal: Goal, links: &[u32]) -> ArrayVec<u8, 64>
+        requires on { GoalOn (held self.now.tables.now) goal }
+        requires cost { Cost K.meaning goal.cost }
+        requires links { LinksOf K.meaning self.now links.now }
+        requires bounds { Bounds K.meaning (Link K.meaning (held self.now.tables.now) self.now.log.now) links.now }
+        ensures { TightOf K.meaning self.now goal result.items }
+    {
+        let mut found = ArrayVec::new();
+        let s = self.tables.place_number(goal.from);
+        let q = self.tables.place_number(goal.to);
+        for r in 0..64 {
+            if let Some(i) = self.log.at(s * 64 + r) {
+                let cost = K::join(self.log.entries[i].cost, links[r * 64 + q]);
+                if K::no_dearer(cost, goal.cost) {
+                    found.push(r as u8);
+                }
+            }
+        }
+        found
+    }
+}

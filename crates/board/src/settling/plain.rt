@@ -1,0 +1,63 @@
+// Links by moves without brackets.
+ghost use Rattle.std.specs.Prelude.{◌≡◌, ◌<◌, length};
+ghost use Rattle.board.specs.Held.{held};
+ghost use Rattle.board.specs.Lowering.{Attained, Bounds, Lowered};
+ghost use Rattle.board.specs.Minima.{Plain, PlainlyFrom, PlainlyBy};
+
+use crate::moves::{Effect, Move, Place};
+use crate::settling::lower::lower;
+use crate::tables::Tables;
+use costs::Kind;
+
+impl<K: Kind> Tables<K> {
+    // That by the move from the place, if it starts there.
+    fn link_from(&self, v: Move, place: Place, links: &mut [u32])
+        requires long { length links.old ≡ 4096 }
+        requires ok { Attained K.meaning (Plain K.meaning (held self.now)) links.old }
+        ensures { Lowered K.meaning (Plain K.meaning (held self.now)) links.old links.new (PlainlyFrom K.meaning (held self.now) v place) }
+    {
+        if let Some(h) = self.arrival(v, place) {
+            if let Effect::Quiet = h.effect {
+                lower::<K>(links, self.pair(place, h.to), h.cost);
+            }
+        }
+    }
+
+    // Those by the row, alone and with each line.
+    fn links_by(&self, row: u8, links: &mut [u32])
+        requires long { length links.old ≡ 4096 }
+        requires ok { Attained K.meaning (Plain K.meaning (held self.now)) links.old }
+        ensures { Lowered K.meaning (Plain K.meaning (held self.now)) links.old links.new (PlainlyBy K.meaning (held self.now) row) }
+    {
+        let Some(r) = self.row(row) else {
+            return;
+        };
+        for moment in 0..self.moments {
+            self.link_from(Move { row, line: None }, (r.from, moment), links);
+        }
+        let lines = self.lines.len() as u8;
+        for number in 0..lines {
+            if let Some(line) = self.line(number) {
+                let v = Move {
+                    row,
+                    line: Some(number),
+                };
+                self.link_from(v, (r.from, line.from), links);
+            }
+        }
+    }
+
+    // All of them; the worst where there is none.
+    pub(crate) fn links(&self) -> [u32; 4096]
+        ensures attained { Attained K.meaning (Plain K.meaning (held self.now)) result }
+        ensures bounds { Bounds K.meaning (Plain K.meaning (held self.now)) result }
+        ensures long { length result ≡ 4096 }
+    {
+        let mut links = [K::worst(); 4096];
+        let rows = self.rows.len() as u8;
+        for row in 0..rows {
+            self.links_by(row, &mut links);
+        }
+        links
+    }
+}

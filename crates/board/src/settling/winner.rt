@@ -1,0 +1,34 @@
+// Finding the candidate of a pair once its cost is known.
+ghost use Rattle.costs.specs.Meaning.{Cost};
+ghost use Rattle.board.specs.Held.{held};
+ghost use Rattle.board.specs.Settling.{Record as ARecord};
+ghost use Rattle.board.specs.Lowering.{Bounds};
+ghost use Rattle.board.specs.Minima.{Closing, Link};
+ghost use Rattle.board.specs.Minimizing.{ClosingsOf, LinksOf};
+ghost use Rattle.board.specs.Winning.{GoalOn, Makes, Wins, Any};
+
+use crate::log::Source;
+use crate::settling::{Goal, Known};
+use costs::Kind;
+
+impl<K: Kind> Known<'_, K> {
+    // Of the candidates that make the goal the first in the order of ties: the first step, or else the first call.
+    pub(crate) fn winner(&self, goal: Goal, closings: &[u32], links: &[u32]) -> Source
+        requires on { GoalOn (held self.now.tables.now) goal }
+        requires cost { Cost K.meaning goal.cost }
+        requires closings { ClosingsOf K.meaning self.now closings.now }
+        requires closings_bounds { Bounds K.meaning (Closing K.meaning (held self.now.tables.now) self.now.log.now) closings.now }
+        requires links { LinksOf K.meaning self.now links.now }
+        requires links_bounds { Bounds K.meaning (Link K.meaning (held self.now.tables.now) self.now.log.now) links.now }
+        requires some { (y : ARecord) × Makes K.meaning (held self.now.tables.now) self.now.log.now goal y }
+        ensures { Wins K.meaning (held self.now.tables.now) self.now.log.now goal Any result }
+    {
+        if let Some(step) = self.first_step(goal) {
+            return step;
+        }
+        let Some(call) = self.first_call(goal, closings, links) else {
+            unreachable!()
+        };
+        call
+    }
+}
