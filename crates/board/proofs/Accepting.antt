@@ -21,6 +21,7 @@ use Rattle.board.specs.Checks.{bracketed, Progress, start, arrived, take_named, 
 use Rattle.board.specs.Moves.{is_end}
 use Rattle.board.proofs.Naming.{named_goes, goes_named}
 use Rattle.board.proofs.Balance.{body_stack, stack_body}
+use Rattle.board.proofs.Decomposing.{same_head, same_tail, no_cons, cons_no}
 
 err_ok : {A E : Type 0} (e : E) (x : A) → Err e ≡ Ok x → ⊥
 err_ok e x h = cc
@@ -28,21 +29,9 @@ err_ok e x h = cc
 ok_in : {A E : Type 0} (x y : A) → ◌≡◌ {A = Result A E} (Ok x) (Ok y) → x ≡ y
 ok_in x y e = cc
 
-cond_ok : {A E : Type 0} (b : Bool) (e : E) (o : Result A E) (x : A) → cond b (Err e) o ≡ Ok x → (b ≡ false) × (o ≡ Ok x)
+pub cond_ok : {A E : Type 0} (b : Bool) (e : E) (o : Result A E) (x : A) → cond b (Err e) o ≡ Ok x → (b ≡ false) × (o ≡ Ok x)
 cond_ok true e o x h = absurd (err_ok e x h)
 cond_ok false e o x h = (refl, h)
-
-same_head : (x y : Effect) (xs ys : List Effect) → x ∷ xs ≡ y ∷ ys → x ≡ y
-same_head x y xs ys e = cc
-
-same_tail : (x y : Effect) (xs ys : List Effect) → x ∷ xs ≡ y ∷ ys → xs ≡ ys
-same_tail x y xs ys e = cc
-
-no_cons : (x : Effect) (xs : List Effect) → [] ≡ x ∷ xs → ⊥
-no_cons x xs e = cc
-
-cons_no : (x : Effect) (xs : List Effect) → x ∷ xs ≡ [] → ⊥
-cons_no x xs e = cc
 
 -- one move of a check, taken apart
 record Took (m : Meaning) (c : Content) (w : Progress) (x : ℕ) (w' : Progress) : Type 0 where

@@ -1,27 +1,23 @@
 -- Finding the call that makes a goal.
-use Rattle.std.proofs.Common.{◌≡◌, ℕ, ◌+◌, ◌*◌, ◌/◌, ◌%◌, ◌<◌, ◌≤◌, true, false, List, [], ◌∷◌, ◌++◌, length, get_or, Some, None, sym, refl, ap, ◌∙◌, subst, subst₂, ap₂, inl, inr, ⊎_elim, arith}
-use lib.Arith.{digits_div, digits_mod}
+use Rattle.std.proofs.Common.{◌≡◌, ℕ, ◌+◌, ◌*◌, ◌<◌, ◌≤◌, true, false, List, [], ◌∷◌, ◌++◌, length, get_or, Some, None, sym, refl, ap, ◌∙◌, subst, subst₂, ap₂, inl, inr, ⊎_elim, arith}
 use Rattle.std.proofs.lemmas.Bool.{cases_eq, cases_lt, both_ways, and_parts, and_from, eqb-true, eq-eqb}
 use Rattle.std.specs.List.{slice_get}
 use Rattle.costs.specs.Meaning.{Meaning, Lawful, Cost, NoDearer}
 use Rattle.board.specs.declared.row.Row.{Row}
-use Rattle.board.specs.declared.row.RowKind.{RowKind}
-use Rattle.board.specs.declared.row.RowKind.TheVariants.{Plain as PlainRow, Open, Close, End}
+use Rattle.board.specs.declared.row.RowKind.TheVariants.{Open}
 use Rattle.board.specs.declared.moves.Move.{Move}
-use Rattle.board.specs.declared.moves.Effect.{Effect}
-use Rattle.board.specs.declared.moves.Effect.TheVariants.{Quiet, Opens, Closes}
+use Rattle.board.specs.declared.moves.Effect.TheVariants.{Opens, Closes}
 use Rattle.board.specs.declared.log.Log.{Log}
 use Rattle.board.specs.declared.log.Source.{Source}
 use Rattle.board.specs.declared.log.Source.TheVariants.{Call}
 use Rattle.board.specs.declared.settling.Goal.{Goal}
 use Rattle.board.specs.Content.{Content}
-use Rattle.board.specs.Moves.{Place, mode, moment, On, place_number, effect, effect_of, Transition}
+use Rattle.board.specs.Moves.{Place, mode, moment, On, place_number, Transition}
 use Rattle.board.specs.Settling.{Record, Derivation, by_step, by_call, bare, call_record, Candidate, step, call, derivation_key, Lex}
 use Rattle.board.specs.Logged.{pair_of, derivation_of, record_of}
 use Rattle.board.specs.Logs.{records, numbered, nth_record, Ready}
-use Rattle.board.specs.Lowering.{Attained, Bounds}
-use Rattle.board.specs.Minima.{closing_number, Closing, Link}
-use Rattle.board.specs.Winning.{GoalOn, Makes, made, Wins, Finds, CallAt, CallsBy, CallsOpened, Calls, Gathered, TightAt, Brackets, is_close, closes_to}
+use Rattle.board.specs.Minima.{Link, StandsFor}
+use Rattle.board.specs.Winning.{GoalOn, Makes, made, Wins, Finds, CallAt, CallsBy, CallsOpened, Calls, Gathered, TightAt, Brackets, ServeIn, is_close, closes_to}
 use Rattle.board.proofs.Laws.{no_dearer_same}
 use Rattle.board.proofs.Membership.{some_eq, none_some}
 use Rattle.board.proofs.Diagonal.{place_eq}
@@ -31,8 +27,7 @@ use Rattle.board.proofs.Uniqueness.{number_eq, bracket_alone, opens_not_quiet, c
 use Rattle.board.proofs.Candidates.{move_eq}
 use Rattle.board.proofs.Logging.{logged_in, in_logged, settled_is}
 use Rattle.board.proofs.Numbers.{number_in}
-use Rattle.board.proofs.Lowering.{attained_cost}
-use Rattle.board.proofs.Closings.{goes_row, opens_small, closing_in, closing_cost}
+use Rattle.board.proofs.Bracketing.{goes_row, place_unique, bracket_leaves, bracket_enters, bracket_price, bracket_does, bracket_goes, effect_open, effect_close, not_both, not_close, open_kind, close_kind, close_is, stands_cheap}
 use Rattle.board.proofs.Links.{entry_cost, joined_right}
 use Rattle.board.proofs.Winning.{wins_more}
 
@@ -77,65 +72,6 @@ call_of {m} {c} {l} {g} o w t (call a b {o = o'} {w = w'} {q} {k} {l = n} {n = b
       costs = ap₂ (λ (x y : Record). m.join (m.join (m.join x.cost k) y.cost) n) (sym ra.2) (sym rb.2) ∙ f;
     }
 
--- places at moments of the board that have one number are one
-pub place_unique : (c : Content) (p q : Place) → moment p < c.moments → moment q < c.moments → place_number c p ≡ place_number c q → p ≡ q
-place_unique c p q h g e = place_eq p q (sym (digits_div (mode p) h) ∙ ap (λ x. x / c.moments) e ∙ digits_div (mode q) g) (sym (digits_mod (mode p) h) ∙ ap (λ x. x % c.moments) e ∙ digits_mod (mode q) g)
-
--- what a bracket's row says of its move, and the other way round
-module _ {m : Meaning} {c : Content} (i : ℕ) (r : Row) (row_is : slice_get c.rows i ≡ Some r) where
-  pub bracket_leaves : {p q : Place} {k : ℕ} {e : Effect} → Transition m c (bare i) p q k e → mode p ≡ r.from
-  bracket_leaves t = t.leaves ∙ ap (λ (z : Row). z.from) (some_eq _ _ _ t.found row_is)
-
-  pub bracket_enters : {p q : Place} {k : ℕ} {e : Effect} → (e ≡ Quiet → ⊥) → Transition m c (bare i) p q k e → q ≡ (r.to, moment p)
-  bracket_enters {p} {q} loud t = place_eq q (r.to, moment p) (t.enters ∙ ap (λ (z : Row). z.to) (some_eq _ _ _ t.found row_is)) (sym (bracket_alone loud t).1)
-
-  pub bracket_price : {p q : Place} {k : ℕ} {e : Effect} → Transition m c (bare i) p q k e → k ≡ r.cost
-  bracket_price t = ⊎_elim (λ u. u.price ∙ ap (λ (z : Row). z.cost) (some_eq _ _ _ t.found row_is)) (λ u. absurd (none_some _ _ refl u.along)) t.time
-
-  pub bracket_does : {p q : Place} {k : ℕ} {e : Effect} → Transition m c (bare i) p q k e → e ≡ effect r
-  bracket_does t = t.does ∙ ap (λ (z : Row). effect z) (some_eq _ _ _ t.found row_is)
-
-  pub bracket_goes : (e : Effect) → effect r ≡ e → (r.kind ≡ PlainRow → ⊥) → (r.kind ≡ End → ⊥) → (p q : Place) → mode p ≡ r.from → moment p < c.moments → q ≡ (r.to, moment p) → Transition m c (bare i) p q r.cost e
-  bracket_goes e does not-plain not-end p q from there to = record {
-    by = r;
-    found = row_is;
-    leaves = from;
-    enters = ap (λ (z : Place). mode z) to;
-    does = sym does;
-    time = inl (record {
-      alone = refl;
-      no_event = λ z. absurd (not-plain z);
-      at_end = λ z. absurd (not-end z);
-      there = there;
-      keeps = sym (ap (λ (z : Place). moment z) to);
-      price = refl;
-    });
-  }
-
-effect_open : (r : Row) → r.kind ≡ Open → effect r ≡ Opens r.label
-effect_open r e = ap (λ (k : RowKind). effect_of k r.label) e
-
-effect_close : (r : Row) → r.kind ≡ Close → effect r ≡ Closes r.label
-effect_close r e = ap (λ (k : RowKind). effect_of k r.label) e
-
-not_both : (k : RowKind) → k ≡ Open → (k ≡ PlainRow → ⊥) × (k ≡ End → ⊥)
-not_both k e = (λ z. let h : Open ≡ PlainRow = sym e ∙ z in cc, λ z. let h : Open ≡ End = sym e ∙ z in cc)
-
-not_close : (k : RowKind) → k ≡ Close → (k ≡ PlainRow → ⊥) × (k ≡ End → ⊥)
-not_close k e = (λ z. let h : Close ≡ PlainRow = sym e ∙ z in cc, λ z. let h : Close ≡ End = sym e ∙ z in cc)
-
-close_kind : (k : RowKind) (n u : ℕ) → Closes n ≡ effect_of k u → (k ≡ Close) × (n ≡ u)
-close_kind PlainRow n u e = absurd cc
-close_kind Open n u e = absurd cc
-close_kind Close n u e = (refl, cc)
-close_kind End n u e = absurd cc
-
-pub close_is : (k : RowKind) → is_close k ≡ true → k ≡ Close
-close_is PlainRow e = absurd (both_ways _ refl e)
-close_is Open e = absurd (both_ways _ refl e)
-close_is Close e = refl
-close_is End e = absurd (both_ways _ refl e)
-
 -- what the index has between two places
 pub between_places : {m : Meaning} {c : Content} {l : Log} (ready : Ready m c l) (p q : Place) → On c p → On c q → (i : ℕ) → get_or l.index (pair_of c p q) None ≡ Some i → (i < l.count) × ((numbered l i).from ≡ p) × ((numbered l i).to ≡ q)
 between_places {c = c} {l} ready p q hp hq i e =
@@ -160,9 +96,6 @@ module _ {m : Meaning} {c : Content} {l : Log} (laws : Lawful m) (ready : Ready 
 
     pub place_in_mode : (p : Place) → mode p ≡ a.from → moment p < c.moments → On c p
     place_in_mode p e h = let f = (ready.sound.sound_rows o a row_is).from_in in (omega arith, h)
-
-    pub label_small : a.label < 16
-    label_small = opens_small laws ready.sound {p = (a.from, 0)} {q = (a.to, 0)} (bracket_goes {m = m} o a row_is (Opens a.label) (effect_open a opens) (not_both a.kind opens).0 (not_both a.kind opens).1 (a.from, 0) (a.to, 0) refl ready.sound.some_moment refl)
 
     -- where a call that it opens starts and enters
     front_at : {w t : ℕ} (x : CallParts m c l g o w t) → (numbered l x.front).to ≡ (a.from, t)
@@ -195,17 +128,18 @@ module _ {m : Meaning} {c : Content} {l : Log} (laws : Lawful m) (ready : Ready 
           there = ap (place_number c) (front_at x);
           price = m.join x.price (m.join (numbered l x.inside).cost x.last);
           link = subst (λ (n : ℕ). Link m c l (n * 64 + place_number c g.to) (m.join x.price (m.join (numbered l x.inside).cost x.last))) (ap (place_number c) (front_at x)) (inr (
+            x.inside,
+            x.inside_in,
             o,
+            w,
             record {
               place = (numbered l x.front).to;
-              entry = (numbered l x.inside).from;
               exit = g.to;
               bracket = x.bracket;
               price = x.price;
-              rest = m.join (numbered l x.inside).cost x.last;
-              goes = x.opens;
-              exit_on = on.1;
-              closing = (x.inside, x.inside_in, (w, record { exit = g.to; bracket = x.bracket; price = x.last; goes = x.closes; at = refl; cost_is = refl }));
+              last = x.last;
+              opens = x.opens;
+              closes = x.closes;
               at = refl;
               cost_is = refl;
             },
@@ -226,18 +160,11 @@ module _ {m : Meaning} {c : Content} {l : Log} (laws : Lawful m) (ready : Ready 
     abbrev pub NoneWhile : ℕ → List ℕ → ℕ → Type 0
     NoneWhile w xs n = (i : ℕ) → i < n → (t : ℕ) → t < c.moments → get_or xs i 0 ≡ place_number c (a.from, t) → Finds m c l g (CallAt o w t) None
 
-    -- the same of the whole reach of the open row
-    abbrev pub NoneReached : List ℕ → ℕ → Type 0
-    NoneReached xs n = (i : ℕ) → i < n → (w t : ℕ) → CallParts m c l g o w t → get_or xs i 0 ≡ place_number c (a.from, t) → ⊥
-
     pub none_while_more : (w : ℕ) (xs : List ℕ) (n : ℕ) → NoneWhile w xs n → ((t : ℕ) → t < c.moments → get_or xs n 0 ≡ place_number c (a.from, t) → Finds m c l g (CallAt o w t) None) → NoneWhile w xs (n + 1)
     none_while_more w xs n old new i h = ⊎_elim (λ (e : i ≡ n). subst (λ (j : ℕ). (t : ℕ) → t < c.moments → get_or xs j 0 ≡ place_number c (a.from, t) → Finds m c l g (CallAt o w t) None) (sym e) new) (λ (z : i ≡ n → ⊥). old i (omega arith)) (cases_eq i n)
 
-    pub none_reached_more : (xs : List ℕ) (n : ℕ) → NoneReached xs n → ((w t : ℕ) → CallParts m c l g o w t → get_or xs n 0 ≡ place_number c (a.from, t) → ⊥) → NoneReached xs (n + 1)
-    none_reached_more xs n old new i h = ⊎_elim (λ (e : i ≡ n). subst (λ (j : ℕ). (w t : ℕ) → CallParts m c l g o w t → get_or xs j 0 ≡ place_number c (a.from, t) → ⊥) (sym e) new) (λ (z : i ≡ n → ⊥). old i (omega arith)) (cases_eq i n)
-
-    pub none_reached : (xs : List ℕ) → Gathered (TightAt m c l g) 64 xs → (n : ℕ) → length xs ≤ n → NoneReached xs n → Finds m c l g (CallsOpened o) None
-    none_reached xs all n h old y k (w, (t, d)) = let x = call_parts o w t y k d in let f = listed xs all x in let f1 = f.1 in old f.0 (omega arith) w t x f.2
+    pub none_reached : (xs : List ℕ) → Gathered (TightAt m c l g) 64 xs → (n : ℕ) → length xs ≤ n → ((w : ℕ) → NoneWhile w xs n) → Finds m c l g (CallsOpened o) None
+    none_reached xs all n h old y k (w, (t, d)) = let x = call_parts o w t y k d in let f = listed xs all x in let f1 = f.1 in old w f.0 (omega arith) t (moment_in x) f.2 y k d
 
     -- another mode
     pub other_mode : (xs : List ℕ) (n : ℕ) (p : Place) → place_number c p ≡ get_or xs n 0 → moment p < c.moments → (mode p ≡ a.from → ⊥) → (t : ℕ) → t < c.moments → get_or xs n 0 ≡ place_number c (a.from, t) → ⊥
@@ -248,29 +175,59 @@ module _ {m : Meaning} {c : Content} {l : Log} (laws : Lawful m) (ready : Ready 
     same_moment xs n p number_is there t h e = ap (λ (z : Place). moment z) (place_unique c p (a.from, t) there h (number_is ∙ e))
 
     -- no front there
-    pub reaches_no_front : (p : Place) → get_or l.index (pair_of c g.from p) None ≡ None → (w t : ℕ) → CallParts m c l g o w t → p ≡ (a.from, t) → ⊥
-    reaches_no_front p e w t x is = none_some _ _ e (ap (λ (z : Place). get_or l.index (pair_of c g.from z) None) is ∙ front_index x)
+    pub reaches_no_front : (p : Place) → get_or l.index (pair_of c g.from p) None ≡ None → (w t : ℕ) → p ≡ (a.from, t) → Finds m c l g (CallAt o w t) None
+    reaches_no_front p e w t is y k d = none_some _ _ e (ap (λ (z : Place). get_or l.index (pair_of c g.from z) None) is ∙ front_index (call_parts o w t y k d))
 
-    -- too dear there
-    pub reaches_dear : (closings : List ℕ) → length closings ≡ 65536 → Attained m (Closing m c l) closings → Bounds m (Closing m c l) closings → Cost m g.cost → (p : Place) (i : ℕ) → get_or l.index (pair_of c g.from p) None ≡ Some i → m.no_dearer (m.join (m.join (numbered l i).cost a.cost) (get_or closings (closing_number (place_number c (a.to, moment p)) a.label (place_number c g.to)) 0)) g.cost ≡ false → (w t : ℕ) → CallParts m c l g o w t → p ≡ (a.from, t) → ⊥
-    reaches_dear closings wide attained bounds goal-cost p i at dear w t x is =
-        let front : i ≡ x.front = some_eq _ _ _ at (ap (λ (z : Place). get_or l.index (pair_of c g.from z) None) is ∙ front_index x) in
-        let slot = closing_number (place_number c (a.to, t)) a.label (place_number c g.to) in
-        let small = closing_in laws ready.sound (a.to, t) g.to a.label (entry_place t (moment_in x)) on.1 label_small in
-        let hk = transition_cost laws ready.sound x.opens in
-        let hl = transition_cost laws ready.sound x.closes in
-        let ha = entry_cost laws ready x.front x.front_in in
-        let hb = entry_cost laws ready x.inside x.inside_in in
-        let hc = attained_cost laws (closing_cost laws ready) closings attained slot (omega arith) in
-        let hak = laws.join_cost _ _ ha hk in
-        let price : x.price ≡ a.cost = bracket_price o a row_is x.opens in
-        let closing : Closing m c l slot (m.join (numbered l x.inside).cost x.last) = (x.inside, x.inside_in, (w, record { exit = g.to; bracket = x.bracket; price = x.last; goes = x.closes; at = ap₂ (λ (q : Place) (n : ℕ). closing_number (place_number c q) n (place_number c g.to)) (sym (inside_from x)) (sym (bracket_is x)); cost_is = refl })) in
-        let low = laws.mono_right _ _ _ hc (laws.join_cost _ _ hb hl) hak (bounds slot _ closing) in
-        let whole : m.join (m.join (numbered l x.front).cost x.price) (m.join (numbered l x.inside).cost x.last) ≡ g.cost = sym (laws.assoc _ _ _ hak hb hl) ∙ x.costs in
-        let reach : NoDearer m (m.join (m.join (numbered l x.front).cost x.price) (get_or closings slot 0)) g.cost = subst (NoDearer m (m.join (m.join (numbered l x.front).cost x.price) (get_or closings slot 0))) whole low in
-        let here : m.join (m.join (numbered l i).cost a.cost) (get_or closings (closing_number (place_number c (a.to, moment p)) a.label (place_number c g.to)) 0) ≡ m.join (m.join (numbered l x.front).cost x.price) (get_or closings slot 0) =
-        λ j. m.join (m.join (numbered l (front j)).cost (sym price j)) (get_or closings (closing_number (place_number c (a.to, moment (is j))) a.label (place_number c g.to)) 0) in
-        both_ways _ (ap (λ (n : ℕ). m.no_dearer n g.cost) (sym here) ∙ dear) reach
+    -- no close row of the list reaches it from there
+    module _ (t i : ℕ) (there : t < c.moments) (at : get_or l.index (pair_of c g.from (a.from, t)) None ≡ Some i) where
+      -- by those that the numbered of the list stand for
+      abbrev pub NoneBy : List ℕ → ℕ → Type 0
+      NoneBy xs n = (k : ℕ) → k < n → (w : ℕ) (x : CallParts m c l g o w t) → StandsFor m c x.closes.by (get_or xs k 0) → ⊥
+
+      pub none_by_more : (xs : List ℕ) (n : ℕ) → NoneBy xs n → ((w : ℕ) (x : CallParts m c l g o w t) → StandsFor m c x.closes.by (get_or xs n 0) → ⊥) → NoneBy xs (n + 1)
+      none_by_more xs n old new k h = ⊎_elim (λ (e : k ≡ n). subst (λ (j : ℕ). (w : ℕ) (x : CallParts m c l g o w t) → StandsFor m c x.closes.by (get_or xs j 0) → ⊥) (sym e) new) (λ (z : k ≡ n → ⊥). old k (omega arith)) (cases_eq k n)
+
+      pub none_by_all : (xs : List ℕ) → ServeIn m c a.label (mode g.to) xs → (n : ℕ) → length xs ≤ n → NoneBy xs n → (w : ℕ) → Finds m c l g (CallAt o w t) None
+      none_by_all xs serve n h old w y k d =
+          let x = call_parts o w t y k d in
+          let z = close_kind _ _ _ x.closes.does in
+          let s = serve w x.closes.by x.closes.found z.0 (sym z.1 ∙ bracket_is x) (sym x.closes.enters) in
+          let s1 = s.1 in
+          old s.0 (omega arith) w x s.2
+
+      -- the row that was read
+      module _ (n : ℕ) (w : ℕ) (x : CallParts m c l g o w t) (s : StandsFor m c x.closes.by n) where
+        pub serves_no_row : slice_get c.rows n ≡ None → ⊥
+        serves_no_row e = none_some _ _ e s.found
+
+        module _ (b : Row) (read : slice_get c.rows n ≡ Some b) where
+          serves_is : s.by ≡ b
+          serves_is = some_eq _ _ _ s.found read
+
+          serves_index : get_or l.index (pair_of c (a.to, t) (b.from, moment g.to)) None ≡ Some x.inside
+          serves_index =
+              let from : mode (numbered l x.inside).to ≡ b.from = x.closes.leaves ∙ sym s.leaves ∙ ap (λ (r : Row). r.from) serves_is in
+              let to : (numbered l x.inside).to ≡ (b.from, moment g.to) = place_eq (numbered l x.inside).to (b.from, moment g.to) from (bracket_alone (closes_not_quiet x.bracket) x.closes).1 in
+              ap₂ (λ (p q : Place). get_or l.index (pair_of c p q) None) (sym (inside_from x)) (sym to) ∙ ready.book.found x.inside x.inside_in
+
+          pub serves_no_inside : get_or l.index (pair_of c (a.to, t) (b.from, moment g.to)) None ≡ None → ⊥
+          serves_no_inside e = none_some _ _ e serves_index
+
+          pub serves_dear : Cost m g.cost → (j : ℕ) → get_or l.index (pair_of c (a.to, t) (b.from, moment g.to)) None ≡ Some j → m.no_dearer (m.join (m.join (m.join (numbered l i).cost a.cost) (numbered l j).cost) b.cost) g.cost ≡ false → ⊥
+          serves_dear goal-cost j at' dear =
+              let front : i ≡ x.front = some_eq _ _ _ at (front_index x) in
+              let inside : j ≡ x.inside = some_eq _ _ _ at' serves_index in
+              let price : x.price ≡ a.cost = bracket_price o a row_is x.opens in
+              let hk = transition_cost laws ready.sound x.opens in
+              let hl = transition_cost laws ready.sound x.closes in
+              let ha = entry_cost laws ready x.front x.front_in in
+              let hb = entry_cost laws ready x.inside x.inside_in in
+              let hs = (ready.sound.sound_rows n s.by s.found).price in
+              let before = laws.join_cost _ _ (laws.join_cost _ _ ha hk) hb in
+              let low : NoDearer m (m.join (m.join (m.join (numbered l x.front).cost x.price) (numbered l x.inside).cost) s.by.cost) g.cost = subst (NoDearer m (m.join (m.join (m.join (numbered l x.front).cost x.price) (numbered l x.inside).cost) s.by.cost)) x.costs (laws.mono_right _ _ _ hs hl before (stands_cheap x.closes s)) in
+              let here : m.join (m.join (m.join (numbered l i).cost a.cost) (numbered l j).cost) b.cost ≡ m.join (m.join (m.join (numbered l x.front).cost x.price) (numbered l x.inside).cost) s.by.cost =
+              λ z. m.join (m.join (m.join (numbered l (front z)).cost (sym price z)) (numbered l (inside z)).cost) (sym serves_is z).cost in
+              both_ways _ (ap (λ (n : ℕ). m.no_dearer n g.cost) (sym here) ∙ dear) low
 
     -- a close row beside it
     module _ (w : ℕ) (b : Row) (rows : Brackets c g o w a b) where
@@ -362,13 +319,7 @@ module _ (m : Meaning) (c : Content) (l : Log) (g : Goal) where
   pub no_open : (o : ℕ) → ((a : Row) → slice_get c.rows o ≡ Some a → a.kind ≡ Open → ⊥) → Finds m c l g (CallsOpened o) None
   no_open o none y k (w, (t, d)) =
       let x : CallParts m c l g o w t = call_of o w t k.candidate k.starts k.ends k.costs d in
-      none x.opens.by x.opens.found (open_kind x.opens.by.kind x.bracket x.opens.by.label x.opens.does)
-    where
-      open_kind : (k : RowKind) (n u : ℕ) → Opens n ≡ effect_of k u → k ≡ Open
-      open_kind PlainRow n u e = absurd cc
-      open_kind Open n u e = refl
-      open_kind Close n u e = absurd cc
-      open_kind End n u e = absurd cc
+      none x.opens.by x.opens.found (open_kind x.opens.by.kind x.bracket x.opens.by.label x.opens.does).0
 
   abbrev pub NoCloseBelow : ℕ → ℕ → Type 0
   NoCloseBelow o n = (i : ℕ) → i < n → Finds m c l g (CallsBy o i) None

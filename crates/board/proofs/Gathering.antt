@@ -1,17 +1,19 @@
 -- Lists of ascending numbers, gathered one after the other.
-use Rattle.std.proofs.Common.{◌≡◌, ℕ, ◌+◌, ◌*◌, ◌<◌, ◌≤◌, false, List, [], ◌∷◌, ◌++◌, length, get_or, Some, None, sym, ap, ◌∙◌, subst, ap₂, ⊎_elim, arith, length-append}
+use Rattle.std.proofs.Common.{◌≡◌, ℕ, ◌+◌, ◌*◌, ◌<◌, ◌≤◌, Bool, true, false, List, [], ◌∷◌, ◌++◌, length, get_or, Some, None, sym, ap, ◌∙◌, subst, ap₂, ⊎_elim, arith, length-append}
 use Rattle.std.proofs.lemmas.Bool.{cases_eq, both_ways}
+use Rattle.std.proofs.lemmas.Option.{slice_get_within}
 use Rattle.std.specs.List.{slice_get}
 use Rattle.costs.specs.Meaning.{Meaning, Lawful, Cost}
+use Rattle.board.specs.declared.row.Row.{Row}
 use Rattle.board.specs.declared.row.Line.{Line}
 use Rattle.board.specs.declared.log.Log.{Log}
 use Rattle.board.specs.declared.settling.Goal.{Goal}
-use Rattle.board.specs.Content.{Content}
+use Rattle.board.specs.Content.{Content, Sound}
 use Rattle.board.specs.Moves.{place_number}
 use Rattle.board.specs.Logs.{numbered, Ready}
 use Rattle.board.specs.Lowering.{Attained, Bounds}
-use Rattle.board.specs.Minima.{Link}
-use Rattle.board.specs.Winning.{Gathered, LineTo, TightAt, GoalOn}
+use Rattle.board.specs.Minima.{Link, StandsFor, Led}
+use Rattle.board.specs.Winning.{Gathered, LineTo, TightAt, GoalOn, Serve, ServeIn, is_close}
 use Rattle.board.proofs.Membership.{some_eq, none_some}
 use Rattle.board.proofs.Numbers.{number_in}
 use Rattle.board.proofs.Lowering.{attained_cost}
@@ -97,3 +99,59 @@ module _ {m : Meaning} {c : Content} {l : Log} (laws : Lawful m) (ready : Ready 
         let price = link_cost laws ready _ _ p.link in
         let step = laws.mono_right _ _ _ link-cost' price a (bounds _ _ p.link) in
         both_ways _ (subst (λ (n : ℕ). m.no_dearer (m.join (numbered l n).cost (get_or links (r * 64 + place_number c goal.to) 0)) goal.cost ≡ false) same dear) (laws.trans _ _ _ (laws.join_cost _ _ a link-cost') (laws.join_cost _ _ a price) goal-cost step p.within))
+
+-- a marked close row that leads to the mode u
+pub record CloserTo (c : Content) (leads : List Bool) (u w : ℕ) : Type 0 where
+  pub row : Row
+  pub found : slice_get c.rows w ≡ Some row
+  pub marked : get_or leads w false ≡ true
+  pub closes : is_close row.kind ≡ true
+  pub enters : row.to ≡ u
+
+module _ {m : Meaning} {c : Content} (laws : Lawful m) (sound : Sound m c) (leads : List Bool) (u : ℕ) where
+  module _ {n : ℕ} {xs : List ℕ} (g : Gathered (CloserTo c leads u) n xs) where
+    pub closer_no_row : slice_get c.rows n ≡ None → Gathered (CloserTo c leads u) (n + 1) xs
+    closer_no_row e = gathered_skip g (λ p. none_some _ _ e p.found)
+
+    pub closer_other : (r : Row) → slice_get c.rows n ≡ Some r → (get_or leads n false ≡ true → is_close r.kind ≡ true → r.to ≡ u → ⊥) → Gathered (CloserTo c leads u) (n + 1) xs
+    closer_other r e far = gathered_skip g (λ p. let is : p.row ≡ r = some_eq _ _ _ p.found e in far p.marked (subst (λ (x : Row). is_close x.kind ≡ true) is p.closes) (subst (λ (x : Row). x.to ≡ u) is p.enters))
+
+  -- for each close row to the mode one of the list stands
+  pub closers_serve : Led m c leads → (n : ℕ) → length c.rows ≤ n → {xs : List ℕ} → Gathered (CloserTo c leads u) n xs → Serve m c u xs
+  closers_serve led n h {xs} all w r e closes to =
+      let s = led w r e in
+      let within = slice_get_within c.rows s.0 s.2.by s.2.found in
+      let f = all.complete s.0 (omega arith) (record { row = s.2.by; found = s.2.found; marked = s.1; closes = ap is_close (s.2.kind ∙ closes); enters = s.2.enters ∙ to }) in
+      (f.0, f.1, subst (StandsFor m c r) (sym f.2) s.2)
+
+-- those of one bracket
+module _ (c : Content) (xs : List ℕ) (bracket : ℕ) where
+  -- of the first n of the list
+  pub record Picked (n : ℕ) (ys : List ℕ) : Type 0 where
+    pub few : length ys ≤ n
+    pub picked : (i : ℕ) → i < n → (r : Row) → slice_get c.rows (get_or xs i 0) ≡ Some r → r.label ≡ bracket → (j : ℕ) × (j < length ys) × (get_or ys j 0 ≡ get_or xs i 0)
+
+  pub picked_none : Picked 0 []
+  picked_none = record { few = omega arith; picked = λ i h. absurd (omega arith) }
+
+  pub picked_skip : (n : ℕ) (ys : List ℕ) → Picked n ys → ((r : Row) → slice_get c.rows (get_or xs n 0) ≡ Some r → r.label ≡ bracket → ⊥) → Picked (n + 1) ys
+  picked_skip n ys p none = record {
+    few = let f = p.few in omega arith;
+    picked = λ i h r e f. ⊎_elim (λ (z : i ≡ n). absurd (none r (ap (λ (k : ℕ). slice_get c.rows (get_or xs k 0)) (sym z) ∙ e) f)) (λ (z : i ≡ n → ⊥). p.picked i (omega arith) r e f) (cases_eq i n);
+  }
+
+  pub picked_push : (n : ℕ) (ys : List ℕ) → Picked n ys → Picked (n + 1) (ys ++ (get_or xs n 0 ∷ []))
+  picked_push n ys p = record {
+    few = let f = p.few in omega (arith, length-append ys (get_or xs n 0 ∷ []));
+    picked = λ i h r e f. ⊎_elim
+        (λ (z : i ≡ n). (length ys, omega (arith, length-append ys (get_or xs n 0 ∷ [])), get_or-append_seam ys (get_or xs n 0) [] 0 ∙ ap (λ (k : ℕ). get_or xs k 0) (sym z)))
+        (λ (z : i ≡ n → ⊥). let s = p.picked i (omega arith) r e f in let s1 = s.1 in (s.0, omega (arith, length-append ys (get_or xs n 0 ∷ [])), get_or-append ys (get_or xs n 0 ∷ []) 0 s.0 s.1 ∙ s.2))
+        (cases_eq i n);
+  }
+
+  pub picked_serve : {m : Meaning} (u n : ℕ) (ys : List ℕ) → length xs ≤ n → Serve m c u xs → Picked n ys → ServeIn m c bracket u ys
+  picked_serve {m} u n ys h serve p w r e closes label to =
+      let s = serve w r e closes to in
+      let s1 = s.1 in
+      let q = p.picked s.0 (omega arith) s.2.by s.2.found (s.2.label ∙ label) in
+      (q.0, q.1, subst (StandsFor m c r) (sym q.2) s.2)

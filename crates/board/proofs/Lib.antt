@@ -26,7 +26,7 @@ pub mod Flight
 pub mod Logging
 pub mod Numbers
 pub mod Lowering
-pub mod Closings
+pub mod Bracketing
 pub mod Plain
 pub mod Leads
 pub mod Links
@@ -34,6 +34,7 @@ pub mod Stating
 pub mod Gathering
 pub mod Winning
 pub mod Calling
+pub mod Awaiting
 pub mod Rounding
 pub mod Knowing
 pub mod Pushing

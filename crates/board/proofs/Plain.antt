@@ -24,7 +24,7 @@ use Rattle.board.proofs.Decomposing.{transition_cost, transition_on}
 use Rattle.board.proofs.Diagonal.{place_eq}
 use Rattle.board.proofs.Numbers.{pair_in}
 use Rattle.board.proofs.Candidates.{move_eq}
-use Rattle.board.proofs.Closings.{goes_row}
+use Rattle.board.proofs.Bracketing.{goes_row}
 use Rattle.board.proofs.Lowering.{lowered_one, lowered_for, lowered_same}
 
 -- a move starts at a place of the board

@@ -1,8 +1,7 @@
 -- What a round takes is the round's.
-use Rattle.std.proofs.Common.{◌≡◌, ℕ, ◌+◌, ◌*◌, ◌/◌, ◌%◌, ◌<◌, ◌≤◌, false, ◌⊎◌, List, get_or, Some, None, Option, sym, refl, ap, ◌∙◌, subst, subst₂, ap₂, inl, inr, ⊎_elim, arith}
+use Rattle.std.proofs.Common.{◌≡◌, ℕ, ◌+◌, ◌*◌, ◌/◌, ◌%◌, ◌<◌, ◌≤◌, ◌⊎◌, List, get_or, Some, None, Option, sym, refl, ap, ◌∙◌, subst, subst₂, ap₂, inl, inr, ⊎_elim, arith}
 use lib.Arith.{digits_div, digits_mod}
 use Rattle.std.proofs.lemmas.Bool.{cases_eq, cases_lt, both_ways}
-use Rattle.std.specs.Option.{is_some}
 use Rattle.costs.specs.Meaning.{Meaning, Lawful, Cost, NoDearer}
 use Rattle.board.specs.declared.moves.Move.{Move}
 use Rattle.board.specs.declared.moves.Effect.TheVariants.{Quiet, Opens, Closes}
@@ -18,7 +17,7 @@ use Rattle.board.specs.Logs.{records, numbered, nth_record, Kept}
 use Rattle.board.specs.Minima.{Link, CandidateAt, State}
 use Rattle.board.specs.Winning.{LeastPair, LeastOf, GoalOn, Makes, made, Wins, Finds, Any, Steps, Calls}
 use Rattle.board.proofs.Membership.{none_some}
-use Rattle.board.proofs.Laws.{no_dearer_same, cheaper_no_dearer, cheaper_up, cheaper_or}
+use Rattle.board.proofs.Laws.{no_dearer_same, cheaper_or}
 use Rattle.board.proofs.Minimal.{candidate_cost}
 use Rattle.board.proofs.Decomposing.{transition_cost, transition_on}
 use Rattle.board.proofs.Uniqueness.{number_eq, bracket_alone, opens_not_quiet, closes_not_quiet}
@@ -26,9 +25,8 @@ use Rattle.board.proofs.Candidates.{move_eq}
 use Rattle.board.proofs.Logging.{logged_in, in_logged}
 use Rattle.board.proofs.Numbers.{pair_in, number_in, pair_parts}
 use Rattle.board.proofs.Lowering.{attained_cost}
-use Rattle.board.proofs.Closings.{small_number}
+use Rattle.board.proofs.Bracketing.{small_number, place_unique}
 use Rattle.board.proofs.Links.{all_priced, link_cost, entry_cost, candidate_cost_at, joined_right}
-use Rattle.board.proofs.Calling.{place_unique}
 use Rattle.board.proofs.Winning.{wins_more}
 
 -- a candidate is a step or a call
@@ -47,81 +45,27 @@ module _ (m : Meaning) (c : Content) (l : Log) (g : Goal) where
   pub none_makes : Finds m c l g Steps None → Finds m c l g Calls None → (y : Record) → Makes m c l g y → ⊥
   none_makes steps calls y k = ⊎_elim (steps y k) (calls y k) (step_or_call k.candidate)
 
--- what is not some is none
-pub not_some : {A : Type 0} (o : Option A) → is_some o ≡ false → {x : Option A} → o ≡ x → x ≡ None
-not_some None e f = sym f
-not_some (Some a) e f = absurd (both_ways _ e refl)
-
--- what the next pair must cost less than
-abbrev pub limit : Meaning → List ℕ → Option ℕ → ℕ
-limit m waiting None = m.worst
-limit m waiting (Some p) = get_or waiting p 0
-
--- the scan of the pairs
-module _ {m : Meaning} (laws : Lawful m) (l : Log) (waiting : List ℕ) (costs : (p : ℕ) → p < 4096 → Cost m (get_or waiting p 0)) where
-  limit_cost : (n : ℕ) → n < 4096 → (o : Option ℕ) → LeastOf m l waiting n o → Cost m (limit m waiting o)
-  limit_cost n h None k = laws.worst_cost
-  limit_cost n h (Some p) k = let w = k.within in costs p (omega arith)
-
-  limit_least : (n : ℕ) (o : Option ℕ) → LeastOf m l waiting n o → (q : ℕ) → q < n → get_or l.index q None ≡ None → NoDearer m (limit m waiting o) (get_or waiting q 0)
-  limit_least n None k q h e = k q h e
-  limit_least n (Some p) k q h e = (k.first q h e).0
-
-  limit_most : (n : ℕ) → n < 4096 → (o : Option ℕ) → LeastOf m l waiting n o → NoDearer m (limit m waiting o) m.worst
-  limit_most n h None k = no_dearer_same laws _ laws.worst_cost
-  limit_most n h (Some p) k = let w = k.within in laws.worst_most _ (costs p (omega arith))
-
-  last : (P : ℕ → Type 0) (n : ℕ) → ((q : ℕ) → q < n → P q) → P n → (q : ℕ) → q < n + 1 → P q
-  last P n old new q h = ⊎_elim (λ (z : q ≡ n). subst P (sym z) new) (λ (z : q ≡ n → ⊥). old q (omega arith)) (cases_eq q n)
-
-  pub least_start : LeastOf m l waiting 0 None
-  least_start q h e = absurd (omega arith)
-
-  -- the pair n is settled, or no cheaper
-  pub least_keep : (n : ℕ) → n < 4096 → (o : Option ℕ) → (get_or l.index n None ≡ None → NoDearer m (limit m waiting o) (get_or waiting n 0)) → LeastOf m l waiting n o → LeastOf m l waiting (n + 1) o
-  least_keep n h None w k = last (λ (q : ℕ). get_or l.index q None ≡ None → NoDearer m m.worst (get_or waiting q 0)) n k w
-  least_keep n h (Some p) w k = record {
-    within = let f = k.within in omega arith;
-    unsettled = k.unsettled;
-    below = k.below;
-    first = last (λ (q : ℕ). get_or l.index q None ≡ None → NoDearer m (get_or waiting p 0) (get_or waiting q 0) × ((get_or waiting p 0 ≡ get_or waiting q 0) → p ≤ q)) n k.first (λ e. (w e, λ z. let f = k.within in omega arith));
-  }
-
-  -- the pair n is cheaper
-  pub least_take : (n : ℕ) → n < 4096 → (o : Option ℕ) → get_or l.index n None ≡ None → m.no_dearer (limit m waiting o) (get_or waiting n 0) ≡ false → LeastOf m l waiting n o → LeastOf m l waiting (n + 1) (Some n)
-  least_take n h o e cheaper k = record {
-    within = omega arith;
-    unsettled = e;
-    below = cheaper_up laws _ (limit m waiting o) _ (costs n h) (limit_cost n h o k) laws.worst_cost cheaper (limit_most n h o k);
-    first = last (λ (q : ℕ). get_or l.index q None ≡ None → NoDearer m (get_or waiting n 0) (get_or waiting q 0) × ((get_or waiting n 0 ≡ get_or waiting q 0) → n ≤ q)) n
-        (λ q hq f. let low = limit_least n o k q hq f in let hc = costs q (omega arith) in (
-          laws.trans _ _ _ (costs n h) (limit_cost n h o k) hc (cheaper_no_dearer laws _ _ (costs n h) (limit_cost n h o k) cheaper) low,
-          λ z. absurd (both_ways _ cheaper (subst (NoDearer m (limit m waiting o)) (sym z) low)),
-        ))
-        (λ f. (no_dearer_same laws _ (costs n h), λ z. omega arith));
-  }
-
 module _ {m : Meaning} {c : Content} {l : Log} {s : Minima} (laws : Lawful m) (state : State m c l s) where
-  pub waiting_costs : (p : ℕ) → p < 4096 → Cost m (get_or s.waiting p 0)
-  waiting_costs p h = attained_cost laws (candidate_cost_at laws state.ready) s.waiting state.linked.waiting_attained p (omega (arith, state.linked.waiting_long))
+  pub waiting_costs : (p : ℕ) → p < 4096 → Cost m (get_or s.waiting.costs p 0)
+  waiting_costs p h = attained_cost laws (candidate_cost_at laws state.ready) s.waiting.costs state.linked.waiting_attained p (omega (arith, state.linked.waiting_long))
 
   -- an entry with a link behind it costs no less than what waits
-  link_covered : (i q k : ℕ) → i < l.count → q < 64 → Link m c l (place_number c (numbered l i).to * 64 + q) k → NoDearer m (get_or s.waiting (place_number c (numbered l i).from * 64 + q) 0) (m.join (numbered l i).cost k)
+  link_covered : (i q k : ℕ) → i < l.count → q < 64 → Link m c l (place_number c (numbered l i).to * 64 + q) k → NoDearer m (get_or s.waiting.costs (place_number c (numbered l i).from * 64 + q) 0) (m.join (numbered l i).cost k)
   link_covered i q k h hq x =
-      let a = small_number laws state.ready.sound _ (state.ready.book.kept i h).from_on in
-      let b = small_number laws state.ready.sound _ (state.ready.book.kept i h).to_on in
+      let a = small_number state.ready.sound _ (state.ready.book.kept i h).from_on in
+      let b = small_number state.ready.sound _ (state.ready.book.kept i h).to_on in
       let ha = entry_cost laws state.ready i h in
       let hl = attained_cost laws (link_cost laws state.ready) s.links state.linked.links_attained (place_number c (numbered l i).to * 64 + q) (omega (arith, state.linked.links_long)) in
       let hk = link_cost laws state.ready _ k x in
       laws.trans _ _ _ (waiting_costs _ (omega arith)) (laws.join_cost _ _ ha hl) (laws.join_cost _ _ ha hk) (state.linked.followed i h _ _ (q, hq, (refl, refl))) (laws.mono_right _ _ _ hl hk ha (state.links_bounds _ k x))
 
   -- no candidate is cheaper than what waits for its pair
-  pub covered : {y : Record} → Candidate m c (records l) y → NoDearer m (get_or s.waiting (pair_of c y.from y.to) 0) y.cost
+  pub covered : {y : Record} → Candidate m c (records l) y → NoDearer m (get_or s.waiting.costs (pair_of c y.from y.to) 0) y.cost
   covered (step a {v} {q} {k} i t) =
       let r = logged_in l.entries l.count a i in
       let t' = subst (λ (p : Place). Transition m c v p q k Quiet) (ap (λ (x : Record). x.to) r.2) t in
-      let hq = small_number laws state.ready.sound q (transition_on laws state.ready.sound t) in
-      subst (λ (x : Record). NoDearer m (get_or s.waiting (pair_of c x.from q) 0) (m.join x.cost k)) (sym r.2) (link_covered r.0 (place_number c q) k r.1 hq (inl (v, record { place = (numbered l r.0).to; exit = q; goes = t'; at = refl })))
+      let hq = small_number state.ready.sound q (transition_on laws state.ready.sound t) in
+      subst (λ (x : Record). NoDearer m (get_or s.waiting.costs (pair_of c x.from q) 0) (m.join x.cost k)) (sym r.2) (link_covered r.0 (place_number c q) k r.1 hq (inl (v, record { place = (numbered l r.0).to; exit = q; goes = t'; at = refl })))
   covered (call a b {o} {w} {q} {k} {l = last} {n} i t j u) =
       let ra = logged_in l.entries l.count a i in
       let rb = logged_in l.entries l.count b j in
@@ -130,25 +74,26 @@ module _ {m : Meaning} {c : Content} {l : Log} {s : Minima} (laws : Lawful m) (s
       let t' : Transition m c (bare o.row) (numbered l ra.0).to (numbered l rb.0).from k (Opens n) = subst (λ (z : Move). Transition m c z (numbered l ra.0).to (numbered l rb.0).from k (Opens n)) mo (subst₂ (λ (p r : Place). Transition m c o p r k (Opens n)) (ap (λ (x : Record). x.to) ra.2) (ap (λ (x : Record). x.from) rb.2) t) in
       let u' : Transition m c (bare w.row) (numbered l rb.0).to q last (Closes n) = subst (λ (z : Move). Transition m c z (numbered l rb.0).to q last (Closes n)) mw (subst (λ (p : Place). Transition m c w p q last (Closes n)) (ap (λ (x : Record). x.to) rb.2) u) in
       let q-on = transition_on laws state.ready.sound u in
-      let hq = small_number laws state.ready.sound q q-on in
+      let hq = small_number state.ready.sound q q-on in
       let low = link_covered ra.0 (place_number c q) (m.join k (m.join (numbered l rb.0).cost last)) ra.1 hq (inr (
+        rb.0,
+        rb.1,
         o.row,
+        w.row,
         record {
           place = (numbered l ra.0).to;
-          entry = (numbered l rb.0).from;
           exit = q;
           bracket = n;
           price = k;
-          rest = m.join (numbered l rb.0).cost last;
-          goes = t';
-          exit_on = q-on;
-          closing = (rb.0, rb.1, (w.row, record { exit = q; bracket = n; price = last; goes = u'; at = refl; cost_is = refl }));
+          last = last;
+          opens = t';
+          closes = u';
           at = refl;
           cost_is = refl;
         },
       )) in
       let same = joined_right laws state.ready (numbered l ra.0).cost k (numbered l rb.0).cost last (entry_cost laws state.ready ra.0 ra.1) (transition_cost laws state.ready.sound t) (entry_cost laws state.ready rb.0 rb.1) (transition_cost laws state.ready.sound u) in
-      subst₂ (λ (x z : Record). NoDearer m (get_or s.waiting (pair_of c x.from q) 0) (m.join (m.join (m.join x.cost k) z.cost) last)) (sym ra.2) (sym rb.2) (subst (NoDearer m (get_or s.waiting (pair_of c (numbered l ra.0).from q) 0)) same low)
+      subst₂ (λ (x z : Record). NoDearer m (get_or s.waiting.costs (pair_of c x.from q) 0) (m.join (m.join (m.join x.cost k) z.cost) last)) (sym ra.2) (sym rb.2) (subst (NoDearer m (get_or s.waiting.costs (pair_of c (numbered l ra.0).from q) 0)) same low)
 
   -- a candidate's places
   candidate_on : {y : Record} → Candidate m c (records l) y → On c y.from × On c y.to
@@ -171,24 +116,24 @@ module _ {m : Meaning} {c : Content} {l : Log} {s : Minima} (laws : Lawful m) (s
           let z = pair_parts c (numbered l i).from (numbered l i).to y.from y.to state.ready.sound.few_places kept.to_on on.1 f.1 in
           absurd (u (nth_record l i) (in_logged l.entries l.count i f.0) (number_eq c _ _ kept.from_on on.0 z.0) (number_eq c _ _ kept.to_on on.1 z.1))
 
-  pub none_left : LeastOf m l s.waiting 4096 None → (y : Record) → Candidate m c (records l) y → Unsettled (records l) y.from y.to → NoDearer m m.worst y.cost
+  pub none_left : LeastOf m l s.waiting.costs 4096 None → (y : Record) → Candidate m c (records l) y → Unsettled (records l) y.from y.to → NoDearer m m.worst y.cost
   none_left k y i u = laws.trans _ _ _ laws.worst_cost (waiting_costs _ (pair_small i)) (candidate_cost laws state.ready.sound (all_priced laws state.ready) i) (k _ (pair_small i) (unnumbered y i u)) (covered i)
 
   -- the pair that was found
-  module _ (p : ℕ) (k : LeastPair m l s.waiting 4096 p) (g : Goal) (from_is : place_number c g.from ≡ p / 64) (to_is : place_number c g.to ≡ p % 64) (from_in : moment g.from < c.moments) (to_in : moment g.to < c.moments) (cost_is : g.cost ≡ get_or s.waiting p 0) where
-    found : CandidateAt m c l p (get_or s.waiting p 0)
+  module _ (p : ℕ) (k : LeastPair m l s.waiting.costs 4096 p) (g : Goal) (from_is : place_number c g.from ≡ p / 64) (to_is : place_number c g.to ≡ p % 64) (from_in : moment g.from < c.moments) (to_in : moment g.to < c.moments) (cost_is : g.cost ≡ get_or s.waiting.costs p 0) where
+    found : CandidateAt m c l p (get_or s.waiting.costs p 0)
     found = ⊎_elim (λ e. absurd (both_ways _ k.below (subst (λ (n : ℕ). NoDearer m m.worst n) (sym e) (no_dearer_same laws _ laws.worst_cost)))) (λ x. x) (state.linked.waiting_attained p (let h = k.within in omega (arith, state.linked.waiting_long)))
 
     found_from : g.from ≡ found.it.from
     found_from =
         let on = candidate_on found.candidate in
-        let b = small_number laws state.ready.sound found.it.to on.1 in
+        let b = small_number state.ready.sound found.it.to on.1 in
         place_unique c g.from found.it.from from_in on.0.1 (from_is ∙ ap (λ (n : ℕ). n / 64) found.at ∙ digits_div (place_number c found.it.from) b)
 
     found_to : g.to ≡ found.it.to
     found_to =
         let on = candidate_on found.candidate in
-        let b = small_number laws state.ready.sound found.it.to on.1 in
+        let b = small_number state.ready.sound found.it.to on.1 in
         place_unique c g.to found.it.to to_in on.1.1 (to_is ∙ ap (λ (n : ℕ). n % 64) found.at ∙ digits_mod (place_number c found.it.from) b)
 
     pub goal_on : GoalOn c g
@@ -237,7 +182,7 @@ module _ {m : Meaning} {c : Content} {l : Log} {s : Minima} (laws : Lawful m) (s
           let cover = covered i in
           let most : NoDearer m g.cost y.cost = subst (λ (n : ℕ). NoDearer m n y.cost) (sym cost_is) (laws.trans _ _ _ hp hw hy low.0 cover) in
           ⊎_elim (λ z. inl z) (λ (e : g.cost ≡ y.cost).
-          let back : NoDearer m (get_or s.waiting pair 0) (get_or s.waiting p 0) = subst (NoDearer m (get_or s.waiting pair 0)) (sym e ∙ cost_is) cover in
+          let back : NoDearer m (get_or s.waiting.costs pair 0) (get_or s.waiting.costs p 0) = subst (NoDearer m (get_or s.waiting.costs pair 0)) (sym e ∙ cost_is) cover in
           let tie = low.1 (laws.antisym _ _ hp hw low.0 back) in
           let at = goal_pair in
           let on = candidate_on i in

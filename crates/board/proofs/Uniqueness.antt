@@ -33,7 +33,7 @@ module _ {m : Meaning} {c : Content} where
       let l : p.taken ≡ p'.taken = some_eq _ _ _ (ap (slice_get c.lines) (sym n) ∙ p.found) p'.found in
       (p.start ∙ ap (λ (x : Line). x.from) l ∙ sym p'.start, p.price ∙ ap (λ (x : Line). m.join r.cost x.cost) l ∙ sym p'.price)
 
-  transition_back : {v : Move} {p p' q : Place} {k k' : ℕ} {e e' : Effect} → Transition m c v p q k e → Transition m c v p' q k' e' → (p ≡ p') × (k ≡ k')
+  pub transition_back : {v : Move} {p p' q : Place} {k k' : ℕ} {e e' : Effect} → Transition m c v p q k e → Transition m c v p' q k' e' → (p ≡ p') × (k ≡ k')
   transition_back {v} {p} {p'} {q} {k} {k'} g g' =
       let b : g.by ≡ g'.by = some_eq _ _ _ g.found g'.found in
       let t = time_back g'.by v.line (moment p) (moment p') (moment q) k k' (subst (λ r. Untimed c r v.line (moment p) (moment q) k ⊎ Timed m c r v.line (moment p) (moment q) k) b g.time) g'.time in

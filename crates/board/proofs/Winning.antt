@@ -32,7 +32,7 @@ use Rattle.board.proofs.Precedence.{lex_refl}
 use Rattle.board.proofs.Uniqueness.{number_eq}
 use Rattle.board.proofs.Logging.{logged_in, in_logged, settled_is}
 use Rattle.board.proofs.Numbers.{pair_parts, pair_in}
-use Rattle.board.proofs.Closings.{goes_row}
+use Rattle.board.proofs.Bracketing.{goes_row}
 
 pub same_true : (p q : Place) → same_place p q ≡ true → p ≡ q
 same_true p q e = let z = and_parts _ _ e in place_eq p q (eqb-true _ _ z.0) (eqb-true _ _ z.1)

@@ -75,7 +75,7 @@ OpensWay m c o p (Some w) = Transition m c (bare o) p w.to w.cost (Opens w.brack
 abbrev pub pushed : Log → ℕ → Entry → ℕ → Log
 pushed l p r n = record { entries = slice_set l.entries l.count r; count = l.count + 1; index = slice_set l.index p (Some l.count); lengths = slice_set l.lengths l.count n }
 
--- nothing settled, and no candidates
+-- nothing settled
 abbrev pub empty : Log
 empty = record { entries = replicate 4096 blank; count = 0; index = replicate 4096 None; lengths = replicate 4096 0 }
 

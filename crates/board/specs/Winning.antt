@@ -19,7 +19,7 @@ use Rattle.board.specs.Moves.{mode, On, place_number}
 use Rattle.board.specs.Settling.{Record, Derivation, by_step, by_call, derivation_key, Lex, Candidate, Cheaper}
 use Rattle.board.specs.Logged.{Refers, derivation_of, record_of}
 use Rattle.board.specs.Logs.{records, numbered}
-use Rattle.board.specs.Minima.{Link}
+use Rattle.board.specs.Minima.{Link, StandsFor}
 
 -- Of the unsettled pairs below n that of the least cost, if it is below the worst; the first where some tie.
 pub record LeastPair (m : Meaning) (l : Log) (waiting : List ℕ) (n p : ℕ) : Type 0 where
@@ -32,6 +32,17 @@ pub record LeastPair (m : Meaning) (l : Log) (waiting : List ℕ) (n p : ℕ) : 
 abbrev pub LeastOf : Meaning → Log → List ℕ → ℕ → Option ℕ → Type 0
 LeastOf m l waiting n None = (q : ℕ) → q < n → slice_index_or l.index q None ≡ None → NoDearer m m.worst (slice_index waiting q)
 LeastOf m l waiting n (Some p) = LeastPair m l waiting n p
+
+-- of the first n of these costs the least, if it is below the worst; the first where some tie
+pub record LeastFirst (m : Meaning) (costs : List ℕ) (n s : ℕ) : Type 0 where
+  pub within : s < n
+  pub below : Cheaper m (slice_index costs s) m.worst
+  pub first : (t : ℕ) → t < n → NoDearer m (slice_index costs s) (slice_index costs t) × ((slice_index costs s ≡ slice_index costs t) → s ≤ t)
+
+-- its number, or none where none is below the worst
+abbrev pub LeastFrom : Meaning → List ℕ → ℕ → Option ℕ → Type 0
+LeastFrom m costs n None = (t : ℕ) → t < n → NoDearer m m.worst (slice_index costs t)
+LeastFrom m costs n (Some s) = LeastFirst m costs n s
 
 -- the goal is between places of the board
 abbrev pub GoalOn : Content → Goal → Type 0
@@ -137,6 +148,18 @@ is_close Open = false
 is_close Close = true
 is_close End = false
 
--- whether the row closes the bracket n and leads to the mode u
+-- whether the row closes the bracket n, from the mode u
+abbrev pub closes_from : Row → ℕ → ℕ → Bool
+closes_from r n u = is_close r.kind && (r.label == n && r.from == u)
+
+-- whether it closes the bracket n and leads to the mode u
 abbrev pub closes_to : Row → ℕ → ℕ → Bool
 closes_to r n u = is_close r.kind && (r.label == n && r.to == u)
+
+-- for each close row that leads to the mode u one of the list stands
+abbrev pub Serve : Meaning → Content → ℕ → List ℕ → Type 0
+Serve m c u xs = (w : ℕ) (r : Row) → slice_get c.rows w ≡ Some r → r.kind ≡ Close → r.to ≡ u → (n : ℕ) × (n < length xs) × StandsFor m c r (slice_index xs n)
+
+-- the same for each that closes the bracket
+abbrev pub ServeIn : Meaning → Content → ℕ → ℕ → List ℕ → Type 0
+ServeIn m c bracket u xs = (w : ℕ) (r : Row) → slice_get c.rows w ≡ Some r → r.kind ≡ Close → r.label ≡ bracket → r.to ≡ u → (n : ℕ) × (n < length xs) × StandsFor m c r (slice_index xs n)

@@ -25,7 +25,7 @@ pub(crate) struct Entry {
 // The entries in the order of settling, where each pair's stands (pair number: first place times 64 plus second), and
 // how many moves each spells out, 65,536 where they are more. (A plain array and its count: entries are read by their
 // numbers at every step, and through a list's slice each of these looks would need a fact of its own. The lengths stand
-// beside them: a candidate is an entry too, and is measured only when it is settled; in one array, each look at an entry
+// beside them: an entry is made before it is measured, and measured only when it is settled; in one array, each look at an entry
 // would take a pair apart.)
 #[derive(Drop)]
 pub(crate) struct Log {

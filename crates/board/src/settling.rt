@@ -8,7 +8,8 @@ use crate::tables::Tables;
 use costs::Kind;
 
 mod calls;
-mod closings;
+mod candidates;
+mod closing;
 mod leads;
 mod links;
 mod lists;
@@ -20,19 +21,23 @@ mod winner;
 
 pub(crate) use rounds::settled_log;
 
+// The least costs of candidates, and of those for unsettled pairs that start at each place.
+#[derive(Drop)]
+pub(crate) struct Waiting {
+    costs: [u32; 4096],
+    least: [u32; 64],
+}
+
 // The least costs beside the log; the worst stands where there is none. Places and pairs go by their numbers.
 //
-// `closings`, by entry place, bracket and exit place: the cheapest entry from there with a close move of the bracket behind it,
-// that leads to the exit.
-// `links`, by two places: the cheapest move without brackets, or open move with a closing.
-// `waiting`, by two places: the cheapest candidate for the pair, or the free cost where it is settled.
-// `leads`, by row: whether it is the open row to look at among those that open the same bracket between the same modes,
-// a cheapest one.
+// `links`, by two places: the cheapest move without brackets, or entry between an open and a close move of one bracket.
+// `waiting`, by two places: the cheapest candidate for the pair, an entry and then a link; and by first place the cheapest of
+// those whose pair is not settled.
+// `leads`, by row: whether it is the one to look at for costs among the rows of its sort, the cheapest, or the last of these.
 #[derive(Drop)]
 pub(crate) struct Minima {
-    closings: [u32; 65536],
     links: [u32; 4096],
-    waiting: [u32; 4096],
+    waiting: Waiting,
     leads: [bool; 128],
 }
 

@@ -18,6 +18,7 @@ use Rattle.file.specs.Parts.{Piece, fault_at}
 use Rattle.file.specs.Records.{go_on, at_place}
 use Rattle.file.specs.Load.{Opened, opened, Loaded, loaded_as, from_rows, sized, no_note, after_header, loaded, note_answer, content_left, load_answer, load_after}
 use Rattle.file.specs.Layout.{Description, in_bytes, header_word, sections_written, written, Byte, content_of, note_at_end, Described, LoadsExactly}
+use Rattle.board.proofs.Accepting.{cond_ok}
 use Rattle.file.proofs.Bytes.{word4_bytes, bytes_word4, word4_fits, each_byte, each_drop}
 use Rattle.file.proofs.Called.{err_not_ok, ok_same}
 use Rattle.file.proofs.Words.{header_word_fits, header_word_read, HeaderWas, header_read_word}
@@ -59,10 +60,6 @@ record OpenedNew (m : Meaning) (bs : List ℕ) (o : Opened) : Type 0 where
 placed : {X : Type 0} (o : Result X FileRefusal) (place : ℕ) (x : X) → at_place o place ≡ Ok x → o ≡ Ok x
 placed (Ok y) place x h = ap Ok (ok_same h)
 placed (Err e) place x h = absurd (err_not_ok x (fault_at e place) (sym h))
-
-uncut : {X E : Type 0} (cut : Bool) (e : E) (o : Result X E) (x : X) → cond cut (Err e) o ≡ Ok x → (cut ≡ false) × (o ≡ Ok x)
-uncut true e o x h = absurd (err_not_ok x e (sym h))
-uncut false e o x h = (refl, h)
 
 -- the content and the note of the sections are those of the description
 contents : (m : Meaning) (d : Description) (rows : Option (List Row)) (lines : Option (List Line)) → d.rows ≡ rows → d.lines ≡ lines → put_lines m d.trust d.lines (put_rows d.rows (with_size new d.modes d.moments)) ≡ content_of m d
@@ -107,7 +104,7 @@ module _ (m : Meaning) where
 
   opened_was : (bs : List ℕ) (o : Opened) → opened m bs new ≡ Ok o → OpenedNew m bs o
   opened_was bs o e =
-      let u = uncut (ltb (length bs) 4) CutShort _ o e in
+      let u = cond_ok (ltb (length bs) 4) CutShort _ o e in
       let a = went_on (header_read m (word4 bs)) (λ (h : Header). go_on (sized h new) (λ (d : Content). Ok (record { content = d; trust = h.trust }))) o u.1 in
       let d = went_on (sized a.value new) (λ (d : Content). Ok (record { content = d; trust = a.value.trust })) o a.then in
       let s = sized_was a.value d.value d.answered in

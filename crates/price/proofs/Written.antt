@@ -7,7 +7,7 @@ use Rattle.costs.specs.Meaning.{Meaning}
 use Rattle.words.specs.Numbers.{is_digit, all_digits}
 use Rattle.words.specs.Pieces.{spacing, pieces_of, NoSeparator}
 use Rattle.price.specs.Lines.{without_return, largest, kind_with_letter, read_first, read_costs, costs_answer, kind_answer, words_answer, written_costs, Of32Bits, ReadsWritten}
-use Rattle.words.proofs.Cutting.{cuts_apart}
+use Rattle.words.proofs.Cutting.{cuts_apart, uncut_append}
 use Rattle.words.proofs.Digits.{decimal_digits, reads_back}
 
 -- a carriage return
@@ -15,10 +15,6 @@ abbrev returns : ℕ → Bool
 returns b = eqb b 13
 
 module _ (sep : ℕ → Bool) where
-  uncut_append : (xs ys : List ℕ) → NoSeparator sep xs → NoSeparator sep ys → NoSeparator sep (xs ++ ys)
-  uncut_append [] ys h k = k
-  uncut_append (x ∷ xs) ys h k = (h.0, uncut_append xs ys h.1 k)
-
   uncut_digits : ((b : ℕ) → 48 ≤ b → sep b ≡ false) → (ds : List ℕ) → all_digits ds ≡ true → NoSeparator sep ds
   uncut_digits high [] h = tt
   uncut_digits high (d ∷ ds) h =

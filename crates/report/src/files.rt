@@ -61,7 +61,8 @@ fn reading<K: Kind>(heap: Global, settled: &Settled<K>) -> Result<String, AllocE
     Ok(out)
 }
 
-// What is printed of a file under a kind.
+// What is printed of a file under a kind. (A frame of its own for each kind, so that only one kind's is set up.)
+#[inline(never)]
 fn under<K: Kind>(heap: Global, bytes: &[u8]) -> Result<String, AllocError>
     ensures { IfOk result (λ s. string_bytes s ≡ lines_under K.meaning bytes.now) }
 {

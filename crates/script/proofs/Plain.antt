@@ -7,7 +7,7 @@ use Rattle.std.proofs.lemmas.Bool.Decides.{nat_tests}
 use Rattle.words.specs.Hex.{hex_digit_of, written_byte, written_u16}
 use Rattle.words.specs.Numbers.{is_digit, all_digits}
 use Rattle.words.specs.Pieces.{spacing, pieces_of, NoSeparator}
-use Rattle.words.proofs.Cutting.{cuts_apart}
+use Rattle.words.proofs.Cutting.{cuts_apart, uncut_append}
 use Rattle.words.proofs.Digits.{decimal_digits}
 use Rattle.costs.specs.Names.{letter_of}
 use Rattle.costs.specs.declared.kind_name.KindName.{KindName}
@@ -41,10 +41,6 @@ no_point b free = (or_parts (point b) (star b) (or_parts (spacing b) _ free).1).
 
 pub no_star : (b : ℕ) → reserved b ≡ false → star b ≡ false
 no_star b free = (or_parts (point b) (star b) (or_parts (spacing b) _ free).1).1
-
-uncut_append : (sep : ℕ → Bool) (xs ys : List ℕ) → NoSeparator sep xs → NoSeparator sep ys → NoSeparator sep (xs ++ ys)
-uncut_append sep [] ys h k = k
-uncut_append sep (x ∷ xs) ys h k = (h.0, uncut_append sep xs ys h.1 k)
 
 -- a text that is written out
 abbrev all_free : List ℕ → Bool

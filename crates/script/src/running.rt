@@ -1,6 +1,6 @@
 // Running a script, line by line.
-ghost use Rattle.std.specs.Prelude.{◌≡◌, ◌++◌, OnOk};
-ghost use Rattle.script.specs.Script.{script_part_of};
+ghost use Rattle.std.specs.Prelude.{◌≡◌, ◌++◌, OnOk, IfOk};
+ghost use Rattle.script.specs.Script.{script_part_of, line_parsed, said};
 
 use crate::command::Command;
 use crate::error::ParseError;
@@ -76,6 +76,26 @@ fn obeyed(
     Ok(Some(next))
 }
 
+// What a line of the script says.
+#[derive(Drop)]
+enum Said {
+    Nothing,
+    Unreadable,
+    Call(Command),
+}
+
+// What the line says. Memory that did not suffice for reading it is the error of the whole script.
+fn read(heap: Global, line: &[u8]) -> Result<Said, AllocError>
+    ensures { IfOk result (λ s. said s ≡ line_parsed line.now) }
+{
+    match parse(heap, line) {
+        Ok(None) => Ok(Said::Nothing),
+        Ok(Some(command)) => Ok(Said::Call(command)),
+        Err(ParseError::Unreadable) => Ok(Said::Unreadable),
+        Err(ParseError::OutOfMemory) => Err(AllocError),
+    }
+}
+
 // Adds the part of the line that is the script.
 fn push_script_part(out: &mut Vec<u8>, line: &[u8]) -> Result<(), AllocError>
     ensures { OnOk result (out.new.items ≡ out.old.items ++ script_part_of line.now) }
@@ -89,18 +109,16 @@ pub fn run(heap: Global, input: &[u8]) -> Result<Vec<u8>, AllocError> {
     let mut out = Vec::new(heap);
     let mut session = None;
     for line in lines.as_slice() {
-        match parse(heap, line) {
-            Ok(None) => continue,
-            Ok(Some(command)) => {
+        match read(heap, line)? {
+            Said::Nothing => continue,
+            Said::Call(command) => {
                 push_script_part(&mut out, line)?;
                 session = obeyed(&mut out, session, &command)?;
             }
-            Err(ParseError::Unreadable) => {
+            Said::Unreadable => {
                 push_script_part(&mut out, line)?;
                 out.extend_from_slice(b" -> unreadable")?;
             }
-            // memory that did not suffice is the error of the whole
-            Err(ParseError::OutOfMemory) => return Err(AllocError),
         }
         out.extend_from_slice(b"\n")?;
     }

@@ -4,6 +4,11 @@ use Rattle.std.specs.List.{filter, slice_split, onto_first}
 use Rattle.std.proofs.lemmas.Bool.{cond-true, cond-false, cases_Bool, ne_eqb}
 use Rattle.words.specs.Pieces.{ended, pieces_after, pieces_of, NoSeparator, CuttingLaws}
 
+-- two texts without separators, one behind the other
+pub uncut_append : (sep : ℕ → Bool) (xs ys : List ℕ) → NoSeparator sep xs → NoSeparator sep ys → NoSeparator sep (xs ++ ys)
+uncut_append sep [] ys h k = k
+uncut_append sep (x ∷ xs) ys h k = (h.0, uncut_append sep xs ys h.1 k)
+
 ended_apart : (run : List ℕ) (ps : List (List ℕ)) → ended run ps ≡ ended run [] ++ ps
 ended_apart [] ps = refl
 ended_apart (b ∷ run) ps = refl

@@ -1,31 +1,19 @@
 // Finding the call that makes a goal.
-ghost use Rattle.std.specs.Prelude.{◌≡◌, ◌<◌, length, false, Some as ASome, None as ANone};
+ghost use Rattle.std.specs.Prelude.{◌≡◌, ℕ, ◌<◌, ◌≤◌, length, false, Some as ASome, None as ANone, slice_index_or};
 ghost use Rattle.costs.specs.Meaning.{Cost};
 ghost use Rattle.board.specs.declared.row.RowKind.TheVariants.{Open};
 ghost use Rattle.board.specs.Held.{held};
-ghost use Rattle.board.specs.Moves.{move_row};
+ghost use Rattle.board.specs.Moves.{mode, move_row};
+ghost use Rattle.board.specs.Logged.{pair_of};
 ghost use Rattle.board.specs.Lowering.{Bounds};
-ghost use Rattle.board.specs.Minima.{Closing, Link};
-ghost use Rattle.board.specs.Minimizing.{ClosingsOf, LinksOf};
-ghost use Rattle.board.specs.Winning.{GoalOn, FindsOf, CallAt, CallsBy, CallsOpened, Calls, TightOf, Brackets, closes_to};
+ghost use Rattle.board.specs.Minima.{Link, Led};
+ghost use Rattle.board.specs.Minimizing.{LinksOf};
+ghost use Rattle.board.specs.Winning.{GoalOn, FindsOf, CallAt, CallsBy, CallsOpened, Calls, TightOf, Brackets, Serve, ServeIn};
 
 use crate::log::Source;
 use crate::row::{Row, RowKind};
-use crate::settling::closings::closing_number;
 use crate::settling::{Goal, Known};
 use costs::Kind;
-
-impl Row {
-    // Whether it closes the bracket and leads to the mode.
-    fn closes_to(&self, bracket: u8, mode: u8) -> bool
-        ensures { result ≡ closes_to self.now bracket mode }
-    {
-        match self.kind {
-            RowKind::Close => self.label == bracket && self.to == mode,
-            RowKind::Plain | RowKind::Open | RowKind::End => false,
-        }
-    }
-}
 
 impl<K: Kind> Known<'_, K> {
     // The call by the open row a and the close row b, of these numbers, that opens at the moment.
@@ -70,26 +58,48 @@ impl<K: Kind> Known<'_, K> {
         None
     }
 
-    // Whether a call that the open row a opens may make the goal.
-    fn reaches(&self, goal: Goal, o: u8, a: Row, closings: &[u32], tight: &[u8]) -> bool
+    // Whether a call that goes on from the entry i by the open row a at the moment, and ends by one of these close rows, costs no
+    // more than the goal.
+    fn reaches_from(&self, goal: Goal, i: usize, o: u8, a: Row, moment: u8, closers: &[u8]) -> bool
         requires on { GoalOn (held self.now.tables.now) goal }
         requires cost { Cost K.meaning goal.cost }
         requires row { move_row (held self.now.tables.now) o ≡ ASome a }
         requires opens { a.kind ≡ Open }
-        requires closings { ClosingsOf K.meaning self.now closings.now }
-        requires bounds { Bounds K.meaning (Closing K.meaning (held self.now.tables.now) self.now.log.now) closings.now }
+        requires moment { moment < (held self.now.tables.now).moments }
+        requires front { slice_index_or self.now.log.now.index (pair_of (held self.now.tables.now) goal.from (a.from, moment)) ANone ≡ ASome i }
+        requires closers { ServeIn K.meaning (held self.now.tables.now) a.label (mode goal.to) closers.now }
+        ensures { result ≡ false → (w : ℕ) → FindsOf K.meaning self.now goal (CallAt o w moment) ANone }
+    {
+        let front = K::join(self.log.entries[i].cost, a.cost);
+        for n in 0..closers.len() {
+            if let Some(b) = self.tables.row(closers[n]) {
+                let inside = self.tables.pair((a.to, moment), (b.from, goal.to.1));
+                if let Some(j) = self.log.at(inside) {
+                    let cost = K::join(K::join(front, self.log.entries[j].cost), b.cost);
+                    if K::no_dearer(cost, goal.cost) {
+                        return true;
+                    }
+                }
+            }
+        }
+        false
+    }
+
+    // Whether a call that the open row a opens, and one of these close rows ends, costs no more than the goal.
+    fn reaches(&self, goal: Goal, o: u8, a: Row, closers: &[u8], tight: &[u8]) -> bool
+        requires on { GoalOn (held self.now.tables.now) goal }
+        requires cost { Cost K.meaning goal.cost }
+        requires row { move_row (held self.now.tables.now) o ≡ ASome a }
+        requires opens { a.kind ≡ Open }
+        requires closers { ServeIn K.meaning (held self.now.tables.now) a.label (mode goal.to) closers.now }
         requires tight { TightOf K.meaning self.now goal tight.now }
         ensures { result ≡ false → FindsOf K.meaning self.now goal (CallsOpened o) ANone }
     {
-        let q = self.tables.place_number(goal.to);
         for n in 0..tight.len() {
             let place = self.tables.place(tight[n] as usize);
             if place.0 == a.from {
                 if let Some(i) = self.log.at(self.tables.pair(goal.from, place)) {
-                    let entry = self.tables.place_number((a.to, place.1));
-                    let front = K::join(self.log.entries[i].cost, a.cost);
-                    let p = closing_number(entry, a.label, q);
-                    if K::no_dearer(K::join(front, closings[p]), goal.cost) {
+                    if self.reaches_from(goal, i, o, a, place.1, closers) {
                         return true;
                     }
                 }
@@ -99,24 +109,18 @@ impl<K: Kind> Known<'_, K> {
     }
 
     // The first call that the open row a opens.
-    fn call_opened(
-        &self,
-        goal: Goal,
-        o: u8,
-        a: Row,
-        closings: &[u32],
-        tight: &[u8],
-    ) -> Option<Source>
+    fn call_opened(&self, goal: Goal, o: u8, a: Row, closers: &[u8], tight: &[u8]) -> Option<Source>
         requires on { GoalOn (held self.now.tables.now) goal }
         requires cost { Cost K.meaning goal.cost }
         requires row { move_row (held self.now.tables.now) o ≡ ASome a }
         requires opens { a.kind ≡ Open }
-        requires closings { ClosingsOf K.meaning self.now closings.now }
-        requires bounds { Bounds K.meaning (Closing K.meaning (held self.now.tables.now) self.now.log.now) closings.now }
+        requires short { length closers.now ≤ 128 }
+        requires closers { Serve K.meaning (held self.now.tables.now) (mode goal.to) closers.now }
         requires tight { TightOf K.meaning self.now goal tight.now }
         ensures { FindsOf K.meaning self.now goal (CallsOpened o) result }
     {
-        if !self.reaches(goal, o, a, closings, tight) {
+        let own = self.closers_of(a.label, goal.to.0, closers);
+        if !self.reaches(goal, o, a, &own, tight) {
             return None;
         }
         let rows = self.tables.rows.len() as u8;
@@ -133,21 +137,22 @@ impl<K: Kind> Known<'_, K> {
     }
 
     // The first call of all.
-    pub(crate) fn first_call(&self, goal: Goal, closings: &[u32], links: &[u32]) -> Option<Source>
+    pub(crate) fn first_call(&self, goal: Goal, leads: &[bool], links: &[u32]) -> Option<Source>
         requires on { GoalOn (held self.now.tables.now) goal }
         requires cost { Cost K.meaning goal.cost }
-        requires closings { ClosingsOf K.meaning self.now closings.now }
-        requires closings_bounds { Bounds K.meaning (Closing K.meaning (held self.now.tables.now) self.now.log.now) closings.now }
+        requires leads { length leads.now ≡ 128 }
+        requires led { Led K.meaning (held self.now.tables.now) leads.now }
         requires links { LinksOf K.meaning self.now links.now }
         requires links_bounds { Bounds K.meaning (Link K.meaning (held self.now.tables.now) self.now.log.now) links.now }
         ensures { FindsOf K.meaning self.now goal Calls result }
     {
+        let closers = self.closers(goal.to.0, leads);
         let tight = self.tight(goal, links);
         let rows = self.tables.rows.len() as u8;
         for o in 0..rows {
             if let Some(a) = self.tables.row(o) {
                 if let RowKind::Open = a.kind {
-                    if let Some(call) = self.call_opened(goal, o, a, closings, &tight) {
+                    if let Some(call) = self.call_opened(goal, o, a, &closers, &tight) {
                         return Some(call);
                     }
                 }

@@ -1,31 +1,19 @@
-// Which open rows to look at for costs.
+// Which rows to look at for costs.
 ghost use Rattle.std.specs.Prelude.{◌≡◌, length, Some as ASome};
-ghost use Rattle.board.specs.declared.row.RowKind.TheVariants.{Open};
 ghost use Rattle.board.specs.Moves.{move_row};
 ghost use Rattle.board.specs.Held.{held};
-ghost use Rattle.board.specs.Minima.{is_open, opens_like, StandsFor, Led};
+ghost use Rattle.board.specs.Minima.{sort_like, StandsFor, Led};
 
-use crate::row::{Row, RowKind};
+use crate::row::Row;
 use crate::tables::Tables;
 use costs::Kind;
 
 impl Row {
-    // Whether it is an open row.
-    fn is_open(&self) -> bool
-        ensures { result ≡ is_open self.now.kind }
+    // Whether both are of one kind, lead from and to the same modes, and have the same label.
+    fn sort_like(&self, other: &Row) -> bool
+        ensures { result ≡ sort_like self.now other.now }
     {
-        match self.kind {
-            RowKind::Open => true,
-            RowKind::Plain | RowKind::Close | RowKind::End => false,
-        }
-    }
-
-    // Whether both are open rows from and to the same modes, of the same bracket.
-    fn opens_like(&self, other: &Row) -> bool
-        ensures { result ≡ opens_like self.now other.now }
-    {
-        self.is_open()
-            && other.is_open()
+        self.kind.number() == other.kind.number()
             && self.from == other.from
             && self.to == other.to
             && self.label == other.label
@@ -33,17 +21,18 @@ impl Row {
 }
 
 impl<K: Kind> Tables<K> {
-    // A cheapest of the open rows like r, which is row n.
+    // The cheapest of the rows of the sort of r, which is row n; the last of them where some tie. So each row of a sort gives
+    // the same.
     fn cheapest_like(&self, n: u8, r: Row) -> u8
         requires { move_row (held self.now) n ≡ ASome r }
-        ensures { r.kind ≡ Open → StandsFor K.meaning (held self.now) r result }
+        ensures { StandsFor K.meaning (held self.now) r result }
     {
         let mut found = n;
         let mut cost = r.cost;
         let rows = self.rows.len() as u8;
         for i in 0..rows {
             if let Some(other) = self.row(i) {
-                if other.opens_like(&r) && !K::no_dearer(cost, other.cost) {
+                if other.sort_like(&r) && K::no_dearer(other.cost, cost) {
                     found = i;
                     cost = other.cost;
                 }
@@ -52,21 +41,18 @@ impl<K: Kind> Tables<K> {
         found
     }
 
-    // A cheapest of each sort of open row.
-    pub(crate) fn leads(&self) -> [bool; 128]
-        ensures led { Led K.meaning (held self.now) result }
-        ensures long { length result ≡ 128 }
+    // Marks one row of each sort, the cheapest, or the last of these.
+    pub(crate) fn mark_leads(&self, leads: &mut [bool])
+        requires { length leads.old ≡ 128 }
+        ensures led { Led K.meaning (held self.now) leads.new }
+        ensures long { length leads.new ≡ 128 }
     {
-        let mut leads = [false; 128];
         let rows = self.rows.len() as u8;
         for n in 0..rows {
             if let Some(r) = self.row(n) {
-                if let RowKind::Open = r.kind {
-                    let found = self.cheapest_like(n, r);
-                    leads[found as usize] = true;
-                }
+                let found = self.cheapest_like(n, r);
+                leads[found as usize] = true;
             }
         }
-        leads
     }
 }

@@ -1,16 +1,18 @@
 // The least costs of links, and of the candidates that follow them.
-ghost use Rattle.std.specs.Prelude.{◌≡◌, ◌⊎◌, ◌+◌, ◌*◌, ◌<◌, length};
+ghost use Rattle.std.specs.Prelude.{◌≡◌, ◌⊎◌, ◌+◌, ◌*◌, ◌<◌, true, false, length, slice_index_or};
+ghost use Rattle.board.specs.declared.moves.Effect.TheVariants.{Opens};
+ghost use Rattle.board.specs.Moves.{Transition};
+ghost use Rattle.board.specs.Settling.{bare};
 ghost use Rattle.board.specs.Held.{held};
 ghost use Rattle.board.specs.Logs.{OpensWay, numbered};
 ghost use Rattle.board.specs.Lowering.{Just, Among};
-ghost use Rattle.board.specs.Minima.{Link, Followed, FollowedFrom, BracketedBy, BracketedIf};
-ghost use Rattle.board.specs.Minimizing.{ClosingsOf, LinksOf, LinkedOf, LinksLower, WaitingOf, WaitingLower};
+ghost use Rattle.board.specs.Minima.{Link, Followed, FollowedFrom, BracketedBy, BracketedOn, BracketedIn};
+ghost use Rattle.board.specs.Minimizing.{LinksOf, LinkedOf, LinksLower, WaitingOf, WaitingLower};
 
 use crate::log::Way;
 use crate::moves::{Effect, Move, Place};
-use crate::settling::Known;
-use crate::settling::closings::closing_number;
 use crate::settling::lower::lower;
+use crate::settling::{Known, Waiting};
 use crate::tables::Tables;
 use costs::Kind;
 
@@ -31,7 +33,7 @@ fn opens<K: Kind>(t: &Tables<K>, row: u8, place: Place) -> Option<Way>
 
 impl<K: Kind> Known<'_, K> {
     // What waits, after the entry i with each link behind it.
-    pub(crate) fn follow(&self, i: usize, links: &[u32], waiting: &mut [u32])
+    pub(crate) fn follow(&self, i: usize, links: &[u32], waiting: &mut Waiting)
         requires within { i < self.now.log.now.count }
         requires links { LinksOf K.meaning self.now links.now }
         requires ok { WaitingOf K.meaning self.now waiting.old }
@@ -41,12 +43,12 @@ impl<K: Kind> Known<'_, K> {
         let s = self.tables.place_number(a.from);
         let r = self.tables.place_number(a.to);
         for q in 0..64 {
-            lower::<K>(waiting, s * 64 + q, K::join(a.cost, links[r * 64 + q]));
+            self.wait(s, q, K::join(a.cost, links[r * 64 + q]), waiting);
         }
     }
 
     // What waits, after each entry to the place numbered r with a link at this cost behind it, to the place numbered q.
-    fn follow_to(&self, r: usize, q: usize, cost: u32, waiting: &mut [u32])
+    fn follow_to(&self, r: usize, q: usize, cost: u32, waiting: &mut Waiting)
         requires from { r < 64 }
         requires to { q < 64 }
         requires link { (cost ≡ K.meaning.worst) ⊎ Link K.meaning (held self.now.tables.now) self.now.log.now (r * 64 + q) cost }
@@ -56,13 +58,13 @@ impl<K: Kind> Known<'_, K> {
         for s in 0..64 {
             if let Some(i) = self.log.at(s * 64 + r) {
                 let total = K::join(self.log.entries[i].cost, cost);
-                lower::<K>(waiting, s * 64 + q, total);
+                self.wait(s, q, total, waiting);
             }
         }
     }
 
     // A link at this cost between the places numbered r and q.
-    fn link(&self, r: usize, q: usize, cost: u32, links: &mut [u32], waiting: &mut [u32])
+    fn link(&self, r: usize, q: usize, cost: u32, links: &mut [u32], waiting: &mut Waiting)
         requires from { r < 64 }
         requires to { q < 64 }
         requires link { (cost ≡ K.meaning.worst) ⊎ Link K.meaning (held self.now.tables.now) self.now.log.now (r * 64 + q) cost }
@@ -75,62 +77,77 @@ impl<K: Kind> Known<'_, K> {
         }
     }
 
-    // Each link by the open row to where the entry j starts and a closing to a place of the moment at which it ends.
+    // The link by the open row o, the entry j and the close row w, if they follow on. The open row leads there from the
+    // place, by this way.
     fn bracket_by(
         &self,
         j: usize,
-        row: u8,
-        closings: &[u32],
+        o: u8,
+        place: Place,
+        way: Way,
+        w: u8,
         links: &mut [u32],
-        waiting: &mut [u32],
+        waiting: &mut Waiting,
     )
         requires within { j < self.now.log.now.count }
-        requires closings { ClosingsOf K.meaning self.now closings.now }
+        requires opens { Transition K.meaning (held self.now.tables.now) (bare o) place (numbered self.now.log.now j).from way.cost (Opens way.bracket) }
         requires ok { LinkedOf K.meaning self.now links.old waiting.old }
         ensures ok { LinkedOf K.meaning self.now links.new waiting.new }
-        ensures lower { LinksLower K.meaning self.now links.old links.new (λ m c l. BracketedBy m c closings.now (numbered l j) row) }
+        ensures lower { LinksLower K.meaning self.now links.old links.new (λ m c l. BracketedBy m c (numbered l j) o w) }
     {
         let b = self.log.entries[j];
-        let Some(open) = self.tables.row(row) else {
+        let Some(close) = self.tables.row(w) else {
             return;
         };
-        let place = (open.from, b.from.1);
-        let Some(w) = opens(self.tables, row, place) else {
-            return;
-        };
-        if w.to.0 != b.from.0 {
+        if !close.closes_from(way.bracket, b.to.0) {
             return;
         }
-        let entry = self.tables.place_number(w.to);
         let r = self.tables.place_number(place);
-        for mode in 0..self.tables.modes {
-            let q = self.tables.place_number((mode, b.to.1));
-            let p = closing_number(entry, w.bracket, q);
-            let cost = K::join(w.cost, closings[p]);
-            self.link(r, q, cost, links, waiting);
+        let q = self.tables.place_number((close.to, b.to.1));
+        let cost = K::join(way.cost, K::join(b.cost, close.cost));
+        self.link(r, q, cost, links, waiting);
+    }
+
+    // The links by the open row o, the entry j and each marked close row.
+    fn bracket_on(&self, j: usize, o: u8, leads: &[bool], links: &mut [u32], waiting: &mut Waiting)
+        requires within { j < self.now.log.now.count }
+        requires leads { length leads.now ≡ 128 }
+        requires marked { slice_index_or leads.now o false ≡ true }
+        requires ok { LinkedOf K.meaning self.now links.old waiting.old }
+        ensures ok { LinkedOf K.meaning self.now links.new waiting.new }
+        ensures lower { LinksLower K.meaning self.now links.old links.new (λ m c l. BracketedOn m c leads.now (numbered l j) o) }
+    {
+        let from = self.log.entries[j].from;
+        let Some(open) = self.tables.row(o) else {
+            return;
+        };
+        if open.to != from.0 {
+            return;
+        }
+        let place = (open.from, from.1);
+        let Some(way) = opens(self.tables, o, place) else {
+            return;
+        };
+        let rows = self.tables.rows.len() as u8;
+        for w in 0..rows {
+            if leads[w as usize] {
+                self.bracket_by(j, o, place, way, w, links, waiting);
+            }
         }
     }
 
-    // The same by each marked row.
-    pub(crate) fn bracket(
-        &self,
-        j: usize,
-        leads: &[bool],
-        closings: &[u32],
-        links: &mut [u32],
-        waiting: &mut [u32],
-    )
+    // The links by the entry j and any marked rows before and behind it.
+    pub(crate) fn bracket(&self, j: usize, leads: &[bool], links: &mut [u32], waiting: &mut Waiting)
         requires within { j < self.now.log.now.count }
         requires leads { length leads.now ≡ 128 }
-        requires closings { ClosingsOf K.meaning self.now closings.now }
         requires ok { LinkedOf K.meaning self.now links.old waiting.old }
         ensures ok { LinkedOf K.meaning self.now links.new waiting.new }
-        ensures lower { LinksLower K.meaning self.now links.old links.new (λ m c l. Among (BracketedIf m c leads.now closings.now (numbered l j)) (length c.rows)) }
+        ensures lower { LinksLower K.meaning self.now links.old links.new (λ m c l. BracketedIn m c leads.now (numbered l j)) }
     {
         let rows = self.tables.rows.len() as u8;
-        for row in 0..rows {
-            if leads[row as usize] {
-                self.bracket_by(j, row, closings, links, waiting);
+        for o in 0..rows {
+            if leads[o as usize] {
+                self.bracket_on(j, o, leads, links, waiting);
             }
         }
     }

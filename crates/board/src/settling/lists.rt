@@ -1,11 +1,11 @@
-// Which lines and places may serve a goal.
-ghost use Rattle.std.specs.Prelude.{length};
+// Which lines, places and close rows may serve a goal.
+ghost use Rattle.std.specs.Prelude.{◌≡◌, ◌≤◌, length};
 ghost use Rattle.costs.specs.Meaning.{Cost};
 ghost use Rattle.board.specs.Held.{held};
 ghost use Rattle.board.specs.Lowering.{Bounds};
-ghost use Rattle.board.specs.Minima.{Link};
+ghost use Rattle.board.specs.Minima.{Link, Led};
 ghost use Rattle.board.specs.Minimizing.{LinksOf};
-ghost use Rattle.board.specs.Winning.{GoalOn, Gathered, LineTo, TightOf};
+ghost use Rattle.board.specs.Winning.{GoalOn, Gathered, LineTo, TightOf, Serve, ServeIn};
 
 use crate::settling::{Goal, Known};
 use arrayvec::ArrayVec;
@@ -44,6 +44,42 @@ impl<K: Kind> Known<'_, K> {
                 let cost = K::join(self.log.entries[i].cost, links[r * 64 + q]);
                 if K::no_dearer(cost, goal.cost) {
                     found.push(r as u8);
+                }
+            }
+        }
+        found
+    }
+
+    // The marked close rows that lead to the mode.
+    pub(crate) fn closers(&self, mode: u8, leads: &[bool]) -> ArrayVec<u8, 128>
+        requires long { length leads.now ≡ 128 }
+        requires led { Led K.meaning (held self.now.tables.now) leads.now }
+        ensures serve { Serve K.meaning (held self.now.tables.now) mode result.items }
+        ensures short { length result.items ≤ 128 }
+    {
+        let mut found = ArrayVec::new();
+        let rows = self.tables.rows.len() as u8;
+        for w in 0..rows {
+            if let Some(close) = self.tables.row(w) {
+                if leads[w as usize] && close.is_close() && close.to == mode {
+                    found.push(w);
+                }
+            }
+        }
+        found
+    }
+
+    // Those of the bracket among these close rows.
+    pub(crate) fn closers_of(&self, bracket: u8, mode: u8, closers: &[u8]) -> ArrayVec<u8, 128>
+        requires short { length closers.now ≤ 128 }
+        requires serve { Serve K.meaning (held self.now.tables.now) mode closers.now }
+        ensures { ServeIn K.meaning (held self.now.tables.now) bracket mode result.items }
+    {
+        let mut found = ArrayVec::new();
+        for n in 0..closers.len() {
+            if let Some(close) = self.tables.row(closers[n]) {
+                if close.label == bracket {
+                    found.push(closers[n]);
                 }
             }
         }

@@ -1,7 +1,7 @@
 // Links by moves without brackets.
 ghost use Rattle.std.specs.Prelude.{◌≡◌, ◌<◌, length};
 ghost use Rattle.board.specs.Held.{held};
-ghost use Rattle.board.specs.Lowering.{Attained, Bounds, Lowered};
+ghost use Rattle.board.specs.Lowering.{Attained, Lowered};
 ghost use Rattle.board.specs.Minima.{Plain, PlainlyFrom, PlainlyBy};
 
 use crate::moves::{Effect, Move, Place};
@@ -10,7 +10,7 @@ use crate::tables::Tables;
 use costs::Kind;
 
 impl<K: Kind> Tables<K> {
-    // That by the move from the place, if it starts there.
+    // That by the move from the place, if it starts there and has no bracket.
     fn link_from(&self, v: Move, place: Place, links: &mut [u32])
         requires long { length links.old ≡ 4096 }
         requires ok { Attained K.meaning (Plain K.meaning (held self.now)) links.old }
@@ -47,17 +47,15 @@ impl<K: Kind> Tables<K> {
         }
     }
 
-    // All of them; the worst where there is none.
-    pub(crate) fn links(&self) -> [u32; 4096]
-        ensures attained { Attained K.meaning (Plain K.meaning (held self.now)) result }
-        ensures bounds { Bounds K.meaning (Plain K.meaning (held self.now)) result }
-        ensures long { length result ≡ 4096 }
+    // All of them.
+    pub(crate) fn add_links(&self, links: &mut [u32])
+        requires long { length links.old ≡ 4096 }
+        requires ok { Attained K.meaning (Plain K.meaning (held self.now)) links.old }
+        ensures { Lowered K.meaning (Plain K.meaning (held self.now)) links.old links.new (Plain K.meaning (held self.now)) }
     {
-        let mut links = [K::worst(); 4096];
         let rows = self.rows.len() as u8;
         for row in 0..rows {
-            self.links_by(row, &mut links);
+            self.links_by(row, links);
         }
-        links
     }
 }

@@ -1,54 +1,41 @@
 // Settling, entry by entry.
-ghost use Rattle.std.specs.Prelude.{◌≡◌, ℕ, ◌+◌, ◌<◌, [], ◌∷◌, length, None as ANone, slice_index, slice_index_or};
-ghost use Rattle.costs.specs.Meaning.{Cost};
+ghost use Rattle.std.specs.Prelude.{◌≡◌, ◌+◌, [], ◌∷◌, None as ANone, slice_index_or};
 ghost use Rattle.board.specs.Held.{held};
 ghost use Rattle.board.specs.Settling.{Settled};
 ghost use Rattle.board.specs.Logged.{Refers, pair_of, record_of};
 ghost use Rattle.board.specs.Logs.{Kept, Book, records, Reached, RoundMade};
 ghost use Rattle.board.specs.Minima.{State};
-ghost use Rattle.board.specs.Winning.{LeastOf};
 
 use crate::log::{Entry, Log, Source};
-use crate::settling::{Goal, Known, Minima, Settling};
+use crate::settling::candidates::least_pair;
+use crate::settling::{Goal, Known, Minima, Settling, Waiting};
 use crate::tables::Tables;
 use costs::Kind;
 
-// Of the unsettled pairs that of the least cost below the worst, the first where some tie.
-fn least_pair<K: Kind>(log: &Log, waiting: &[u32]) -> Option<usize>
-    requires long { length waiting.now ≡ 4096 }
-    requires costs { (p : ℕ) → p < 4096 → Cost K.meaning (slice_index waiting.now p) }
-    ensures { LeastOf K.meaning log.now waiting.now 4096 result }
-{
-    let mut found = None;
-    let mut cost = K::worst();
-    for p in 0..4096 {
-        if log.at(p).is_none() && !K::no_dearer(cost, waiting[p]) {
-            found = Some(p);
-            cost = waiting[p];
-        }
-    }
-    found
-}
-
 impl Settling {
-    // Nothing settled.
+    // Nothing settled: links by moves without brackets only, and the rows that lead.
     fn empty<K: Kind>(tables: &Tables<K>) -> Settling
         ensures state { State K.meaning (held tables.now) result.log result.minima }
         ensures records { records result.log ≡ [] }
     {
-        Settling {
+        let mut settling = Settling {
             log: Log::new(),
             minima: Minima {
-                closings: [K::worst(); 65536],
-                links: tables.links(),
-                waiting: [K::worst(); 4096],
-                leads: tables.leads(),
+                links: [K::worst(); 4096],
+                waiting: Waiting {
+                    costs: [K::worst(); 4096],
+                    least: [K::worst(); 64],
+                },
+                leads: [false; 128],
             },
-        }
+        };
+        tables.add_links(&mut settling.minima.links);
+        tables.mark_leads(&mut settling.minima.leads);
+        settling
     }
 
-    // Settles an entry, and lowers what it makes cheaper: candidates that go on from it, closings that it is inside, and the
-    // links with these.
+    // Settles an entry, finds the least from its first place anew, and lowers what it makes cheaper: candidates that go on from
+    // it, and links that it is inside.
     fn settle<K: Kind>(&mut self, tables: &Tables<K>, r: Entry)
         requires state { State K.meaning (held tables.now) self.old.log self.old.minima }
         requires fresh { slice_index_or self.old.log.index (pair_of (held tables.now) r.from r.to) ANone ≡ ANone }
@@ -66,23 +53,18 @@ impl Settling {
             log: &self.log,
         };
         let minima = &mut self.minima;
+        known.renew(tables.place_number(r.from), &mut minima.waiting);
         known.follow(n, &minima.links, &mut minima.waiting);
-        known.close(n, &mut minima.closings);
-        known.bracket(
-            n,
-            &minima.leads,
-            &minima.closings,
-            &mut minima.links,
-            &mut minima.waiting,
-        );
+        known.bracket(n, &minima.leads, &mut minima.links, &mut minima.waiting);
     }
 
-    // The diagonal settled, each place to itself, free.
-    fn new<K: Kind>(tables: &Tables<K>) -> Settling
-        ensures state { State K.meaning (held tables.now) result.log result.minima }
-        ensures reached { Reached K.meaning (held tables.now) (records result.log) }
+    // Settles the diagonal, each place to itself, free.
+    fn begin<K: Kind>(&mut self, tables: &Tables<K>)
+        requires state { State K.meaning (held tables.now) self.old.log self.old.minima }
+        requires nothing { records self.old.log ≡ [] }
+        ensures state { State K.meaning (held tables.now) self.new.log self.new.minima }
+        ensures reached { Reached K.meaning (held tables.now) (records self.new.log) }
     {
-        let mut settling = Settling::empty(tables);
         for mode in 0..tables.modes {
             for moment in 0..tables.moments {
                 let place = (mode, moment);
@@ -92,10 +74,9 @@ impl Settling {
                     cost: K::free(),
                     source: Source::Start,
                 };
-                settling.settle(tables, start);
+                self.settle(tables, start);
             }
         }
-        settling
     }
 
     // Makes one round: settles the least candidate below the worst, or says that there is none.
@@ -113,13 +94,13 @@ impl Settling {
         let goal = Goal {
             from: tables.place(pair / 64),
             to: tables.place(pair % 64),
-            cost: minima.waiting[pair],
+            cost: minima.waiting.costs[pair],
         };
         let known = Known {
             tables,
             log: &self.log,
         };
-        let source = known.winner(goal, &minima.closings, &minima.links);
+        let source = known.winner(goal, &minima.leads, &minima.links);
         let r = Entry {
             from: goal.from,
             to: goal.to,
@@ -136,7 +117,8 @@ pub(crate) fn settled_log<K: Kind>(tables: &Tables<K>) -> Log
     ensures book { Book K.meaning (held tables.now) result }
     ensures settled { Settled K.meaning (held tables.now) (records result) }
 {
-    let mut settling = Settling::new(tables);
+    let mut settling = Settling::empty(tables);
+    settling.begin(tables);
     'rounds: loop {
         if !settling.round(tables) {
             break 'rounds;

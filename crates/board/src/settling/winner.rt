@@ -1,10 +1,11 @@
 // Finding the candidate of a pair once its cost is known.
+ghost use Rattle.std.specs.Prelude.{◌≡◌, length};
 ghost use Rattle.costs.specs.Meaning.{Cost};
 ghost use Rattle.board.specs.Held.{held};
 ghost use Rattle.board.specs.Settling.{Record as ARecord};
 ghost use Rattle.board.specs.Lowering.{Bounds};
-ghost use Rattle.board.specs.Minima.{Closing, Link};
-ghost use Rattle.board.specs.Minimizing.{ClosingsOf, LinksOf};
+ghost use Rattle.board.specs.Minima.{Link, Led};
+ghost use Rattle.board.specs.Minimizing.{LinksOf};
 ghost use Rattle.board.specs.Winning.{GoalOn, Makes, Wins, Any};
 
 use crate::log::Source;
@@ -13,11 +14,11 @@ use costs::Kind;
 
 impl<K: Kind> Known<'_, K> {
     // Of the candidates that make the goal the first in the order of ties: the first step, or else the first call.
-    pub(crate) fn winner(&self, goal: Goal, closings: &[u32], links: &[u32]) -> Source
+    pub(crate) fn winner(&self, goal: Goal, leads: &[bool], links: &[u32]) -> Source
         requires on { GoalOn (held self.now.tables.now) goal }
         requires cost { Cost K.meaning goal.cost }
-        requires closings { ClosingsOf K.meaning self.now closings.now }
-        requires closings_bounds { Bounds K.meaning (Closing K.meaning (held self.now.tables.now) self.now.log.now) closings.now }
+        requires leads { length leads.now ≡ 128 }
+        requires led { Led K.meaning (held self.now.tables.now) leads.now }
         requires links { LinksOf K.meaning self.now links.now }
         requires links_bounds { Bounds K.meaning (Link K.meaning (held self.now.tables.now) self.now.log.now) links.now }
         requires some { (y : ARecord) × Makes K.meaning (held self.now.tables.now) self.now.log.now goal y }
@@ -26,7 +27,7 @@ impl<K: Kind> Known<'_, K> {
         if let Some(step) = self.first_step(goal) {
             return step;
         }
-        let Some(call) = self.first_call(goal, closings, links) else {
+        let Some(call) = self.first_call(goal, leads, links) else {
             unreachable!()
         };
         call

@@ -1,18 +1,25 @@
-use Rattle.std.proofs.lemmas.Bool.{both_ways}
+use Rattle.std.proofs.Common.{length, arith}
+use Rattle.board.specs.Held.{held}
+use Rattle.board.specs.Logs.{numbered}
+use Rattle.board.specs.Minima.{BracketedOn}
 use Rattle.board.proofs.Knowing.{ready_of}
-use Rattle.board.proofs.Lowering.{lowered_start, lowered_more, lowered_for, lowered_same}
-use Rattle.board.proofs.Links.{link_cost, bracketed_cost, marked_fits}
+use Rattle.board.proofs.Lowering.{lowered_start, lowered_more, lowered_for, among_all}
+use Rattle.board.proofs.Links.{link_cost, in_fits, in_all, in_unmarked}
 use Rattle.board.proofs.settling.Known.bracket.Goals as goal
-use Rattle.board.proofs.settling.Known.bracket.Goals.{then-leads-row, else-leads-row}
+use Rattle.board.proofs.settling.Known.bracket.Goals.{then-leads-o, else-leads-o}
 
-pub loop-row-init : goal.loop-row-init
-loop-row-init g c = (c.requires.ok, lowered_start g.met.K.Kind.lawful (link_cost g.met.K.Kind.lawful (ready_of c.args.self.now)) _ _ c.requires.ok.links_attained)
+pub loop-o-init : goal.loop-o-init
+loop-o-init g c = (c.requires.ok, lowered_start g.met.K.Kind.lawful (link_cost g.met.K.Kind.lawful (ready_of c.args.self.now)) _ _ c.requires.ok.links_attained)
 
-pub loop-row-preserved : goal.loop-row-preserved
-loop-row-preserved g c =
+pub loop-o-preserved : goal.loop-o-preserved
+loop-o-preserved g c =
     let laws = g.met.K.Kind.lawful in
     let ready = ready_of c.args.self.now in
-    elim c.if-leads-row.branch [
-      | then-leads-row w ↦ rw (w.links-is, w.waiting-is) (w.bracket_by.ensures.ok, lowered_more laws (link_cost laws ready) _ _ _ _ c.loop-row.row c.requires.ok.links_attained (marked_fits c.args.leads.now _ c.requires.ok.links_long (λ i. bracketed_cost laws ready c.args.closings.now c.requires.closings.0 c.requires.closings.1 c.args.j i c.requires.within) c.loop-row.row) c.loop-row.invariant.1 (lowered_for w.bracket_by.ensures.lower (λ p k x. x.1)))
-      | else-leads-row w ↦ rw (w.links-is, w.waiting-is) (c.loop-row.invariant.0, lowered_more laws (link_cost laws ready) _ _ _ _ c.loop-row.row c.requires.ok.links_attained (marked_fits c.args.leads.now _ c.requires.ok.links_long (λ i. bracketed_cost laws ready c.args.closings.now c.requires.closings.0 c.requires.closings.1 c.args.j i c.requires.within) c.loop-row.row) c.loop-row.invariant.1 (lowered_same laws (link_cost laws ready) _ c.loop-row.invariant.0.links_attained (λ p k x. both_ways _ w.if-leads-row.false x.0)))
+    let fits = in_fits g.met.K.Kind.lawful (ready_of c.args.self.now) c.args.j c.requires.within c.args.leads.now _ c.requires.ok.links_long c.loop-o.o in
+    elim c.if-leads-o.branch [
+      | then-leads-o w ↦ rw (w.links-is, w.waiting-is) (w.bracket_on.ensures.ok, lowered_more laws (link_cost laws ready) _ _ _ _ c.loop-o.o c.requires.ok.links_attained fits c.loop-o.invariant.1 w.bracket_on.ensures.lower)
+      | else-leads-o w ↦ rw (w.links-is, w.waiting-is) (c.loop-o.invariant.0, lowered_more laws (link_cost laws ready) _ _ _ _ c.loop-o.o c.requires.ok.links_attained fits c.loop-o.invariant.1 (in_unmarked g.met.K.Kind.lawful (ready_of c.args.self.now) c.args.j c.requires.within c.args.leads.now _ c.loop-o.o c.loop-o.invariant.0.links_attained w.if-leads-o.false))
     ]
+
+pub returns-clause-lower : goal.returns-clause-lower
+returns-clause-lower g c = lowered_for (among_all (BracketedOn g.K.Kind.meaning (held c.args.self.now.tables.now) c.args.leads.now (numbered c.args.self.now.log.now c.args.j)) _ (length c.args.self.now.tables.now.rows.items) (omega arith) (omega arith) c.loop-o.invariant.1) (in_all g.met.K.Kind.lawful (ready_of c.args.self.now) c.args.j c.requires.within c.args.leads.now)

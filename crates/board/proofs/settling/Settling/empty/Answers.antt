@@ -1,11 +1,18 @@
 use Rattle.std.proofs.Common.{ap, ◌∙◌}
+use lib.ListN.{length-replicate}
+use Rattle.board.specs.Held.{held}
 use Rattle.board.specs.Logs.{records}
+use Rattle.board.specs.Minima.{Plain}
+use Rattle.board.proofs.Plain.{worst_attained}
 use Rattle.board.proofs.Starting.{empty_records}
 use Rattle.board.proofs.Stating.{empty_state}
 use Rattle.board.proofs.settling.Settling.empty.Goals as goal
 
+pub add_links-requires-clause-ok : goal.add_links-requires-clause-ok
+add_links-requires-clause-ok g c = worst_attained g.K.Kind.meaning (Plain g.K.Kind.meaning (held c.args.tables.now)) 4096 c.worst.result c.worst.ensures
+
 pub returns-clause-state : goal.returns-clause-state
-returns-clause-state g c = empty_state g.met.K.Kind.lawful c.args.tables.now.sound _ _ _ _ _ c.new.ensures c.worst.ensures c.worst-2.ensures c.links.ensures.attained c.links.ensures.bounds c.links.ensures.long c.leads.ensures.led c.leads.ensures.long
+returns-clause-state g c = empty_state g.met.K.Kind.lawful c.args.tables.now.sound _ _ _ _ _ c.new.ensures c.worst-2.ensures c.worst-3.ensures c.add_links.ensures.attained c.add_links.ensures.bounds (c.add_links.ensures.long ∙ length-replicate 4096 c.worst.result) c.mark_leads.ensures.led c.mark_leads.ensures.long
 
 pub returns-clause-records : goal.returns-clause-records
 returns-clause-records g c = ap records c.new.ensures ∙ empty_records

@@ -1,5 +1,13 @@
+use Rattle.std.proofs.Common.{ℕ, ◌≢◌, List, length, ap, subst, ◌∙◌, arith}
+use Rattle.board.specs.declared.log.Log.{Log}
+use Rattle.board.specs.Held.{held}
+use Rattle.board.specs.Logs.{numbered}
+use Rattle.board.specs.Lowering.{Lowered}
+use Rattle.board.specs.Minima.{CandidateAt, Followed}
+use Rattle.board.proofs.Numbers.{number_in}
+use Rattle.board.proofs.Links.{attained_cost_within}
 use Rattle.board.proofs.Pushing.{room_here}
-use Rattle.board.proofs.Stating.{extended, closings_stay, links_stay, waiting_stay, linked_stays, state_more}
+use Rattle.board.proofs.Stating.{extended, links_stay, waiting_stay, rows_stay, linked_stays, state_more}
 use Rattle.board.proofs.settling.Settling.settle.Goals as goal
 
 pub push-requires-clause-room : goal.push-requires-clause-room
@@ -15,25 +23,33 @@ follow-requires-clause-links g c =
     let more = extended c.requires.state.ready c.pair.ensures c.requires.fresh c.requires.kept c.requires.refers c.length_of-moves.ensures c.push.ensures in
     (c.requires.state.linked.links_long, links_stay g.met.K.Kind.lawful more _ c.requires.state.linked.links_attained)
 
+pub renew-requires-clause-from : goal.renew-requires-clause-from
+renew-requires-clause-from g c =
+    let h = number_in (held c.args.tables.now) c.args.r.from c.requires.state.ready.sound.few_places c.requires.kept.from_on in
+    omega (arith, h, c.place_number.ensures.number)
+
+pub renew-requires-clause-costs : goal.renew-requires-clause-costs
+renew-requires-clause-costs g c = attained_cost_within g.met.K.Kind.lawful c.requires.state.ready _ c.requires.state.linked.waiting_long c.requires.state.linked.waiting_attained
+
+pub renew-requires-clause-others : goal.renew-requires-clause-others
+renew-requires-clause-others g c =
+    let more = extended c.requires.state.ready c.pair.ensures c.requires.fresh c.requires.kept c.requires.refers c.length_of-moves.ensures c.push.ensures in
+    λ t ht far. rows_stay g.met.K.Kind.lawful more c.requires.state _ c.pair.ensures t ht (subst (λ (n : ℕ). t ≢ n) c.place_number.ensures.number far) (ap (λ (x : Log). x.index) c.push.ensures)
+
 pub follow-requires-clause-ok : goal.follow-requires-clause-ok
 follow-requires-clause-ok g c =
     let more = extended c.requires.state.ready c.pair.ensures c.requires.fresh c.requires.kept c.requires.refers c.length_of-moves.ensures c.push.ensures in
-    (c.requires.state.linked.waiting_long, waiting_stay g.met.K.Kind.lawful more _ c.requires.state.linked.waiting_attained)
-
-pub close-requires-clause-ok : goal.close-requires-clause-ok
-close-requires-clause-ok g c =
-    let more = extended c.requires.state.ready c.pair.ensures c.requires.fresh c.requires.kept c.requires.refers c.length_of-moves.ensures c.push.ensures in
-    (c.requires.state.closings_long, closings_stay g.met.K.Kind.lawful more _ c.requires.state.closings_attained)
+    record { long = ap length c.renew.ensures.costs ∙ c.requires.state.linked.waiting_long; attained = rw c.renew.ensures.costs (waiting_stay g.met.K.Kind.lawful more _ c.requires.state.linked.waiting_attained); least = c.renew.ensures.rows }
 
 pub bracket-requires-clause-ok : goal.bracket-requires-clause-ok
 bracket-requires-clause-ok g c =
     let more = extended c.requires.state.ready c.pair.ensures c.requires.fresh c.requires.kept c.requires.refers c.length_of-moves.ensures c.push.ensures in
-    linked_stays g.met.K.Kind.lawful more c.requires.state _ c.follow.ensures
+    linked_stays g.met.K.Kind.lawful more c.requires.state _ (subst (λ (xs : List ℕ). Lowered g.K.Kind.meaning (CandidateAt g.K.Kind.meaning (held c.args.tables.now) c.push.new.self) xs c.follow.new.waiting.costs (Followed g.K.Kind.meaning (held c.args.tables.now) c.args.self.now.minima.links (numbered c.push.new.self c.args.self.now.log.count))) c.renew.ensures.costs c.follow.ensures.costs) c.follow.ensures.least
 
 pub returns-clause-state : goal.returns-clause-state
 returns-clause-state g c =
     let more = extended c.requires.state.ready c.pair.ensures c.requires.fresh c.requires.kept c.requires.refers c.length_of-moves.ensures c.push.ensures in
-    state_more g.met.K.Kind.lawful more c.requires.state _ c.close.ensures _ c.bracket.ensures.lower _ c.bracket.ensures.ok
+    state_more g.met.K.Kind.lawful more c.requires.state _ c.bracket.ensures.lower _ c.bracket.ensures.ok
 
 pub returns-clause-more : goal.returns-clause-more
 returns-clause-more g c = (extended c.requires.state.ready c.pair.ensures c.requires.fresh c.requires.kept c.requires.refers c.length_of-moves.ensures c.push.ensures).more

@@ -1,0 +1,87 @@
+// The least costs of candidates.
+ghost use Rattle.std.specs.Prelude.{◌≡◌, ◌≢◌, ◌⊎◌, ℕ, ◌+◌, ◌*◌, ◌<◌, length, slice_index};
+ghost use Rattle.costs.specs.Meaning.{Cost};
+ghost use Rattle.board.specs.Held.{held};
+ghost use Rattle.board.specs.Lowering.{Just};
+ghost use Rattle.board.specs.Minima.{CandidateAt, RowLeast, RowsLeast};
+ghost use Rattle.board.specs.Minimizing.{WaitingOf, WaitingLower};
+ghost use Rattle.board.specs.Winning.{LeastFrom, LeastOf};
+
+use crate::log::Log;
+use crate::settling::lower::lower;
+use crate::settling::{Known, Waiting};
+use costs::Kind;
+
+impl<K: Kind> Known<'_, K> {
+    // A candidate at this cost, between the places numbered s and q.
+    pub(crate) fn wait(&self, s: usize, q: usize, cost: u32, waiting: &mut Waiting)
+        requires from { s < 64 }
+        requires to { q < 64 }
+        requires some { (cost ≡ K.meaning.worst) ⊎ CandidateAt K.meaning (held self.now.tables.now) self.now.log.now (s * 64 + q) cost }
+        requires ok { WaitingOf K.meaning self.now waiting.old }
+        ensures { WaitingLower K.meaning self.now waiting.old waiting.new (λ m c l. Just (s * 64 + q) cost) }
+    {
+        let p = s * 64 + q;
+        if lower::<K>(&mut waiting.costs, p, cost) {
+            if self.log.at(p).is_none() {
+                lower::<K>(&mut waiting.least, s, cost);
+            }
+        }
+    }
+
+    // The cheapest of the unsettled pairs from the place numbered s, found anew.
+    pub(crate) fn renew(&self, s: usize, waiting: &mut Waiting)
+        requires from { s < 64 }
+        requires long { length waiting.old.costs ≡ 4096 }
+        requires least_long { length waiting.old.least ≡ 64 }
+        requires costs { (p : ℕ) → p < 4096 → Cost K.meaning (slice_index waiting.old.costs p) }
+        requires others { (t : ℕ) → t < 64 → t ≢ s → RowLeast K.meaning self.now.log.now waiting.old.costs t 64 (slice_index waiting.old.least t) }
+        ensures costs { waiting.new.costs ≡ waiting.old.costs }
+        ensures rows { RowsLeast K.meaning self.now.log.now waiting.new }
+    {
+        let mut least = K::worst();
+        for q in 0..64 {
+            let p = s * 64 + q;
+            if self.log.at(p).is_none() && !K::no_dearer(least, waiting.costs[p]) {
+                least = waiting.costs[p];
+            }
+        }
+        waiting.least[s] = least;
+    }
+}
+
+// The first place from which an unsettled pair costs least, below the worst.
+fn least_from<K: Kind>(waiting: &Waiting) -> Option<usize>
+    requires long { length waiting.now.least ≡ 64 }
+    requires costs { (s : ℕ) → s < 64 → Cost K.meaning (slice_index waiting.now.least s) }
+    ensures { LeastFrom K.meaning waiting.now.least 64 result }
+{
+    let mut found = None;
+    let mut cost = K::worst();
+    for s in 0..64 {
+        if !K::no_dearer(cost, waiting.least[s]) {
+            found = Some(s);
+            cost = waiting.least[s];
+        }
+    }
+    found
+}
+
+// Of the unsettled pairs that of the least cost below the worst, the first where some tie.
+pub(crate) fn least_pair<K: Kind>(log: &Log, waiting: &Waiting) -> Option<usize>
+    requires long { length waiting.now.costs ≡ 4096 }
+    requires costs { (p : ℕ) → p < 4096 → Cost K.meaning (slice_index waiting.now.costs p) }
+    requires rows { RowsLeast K.meaning log.now waiting.now }
+    ensures { LeastOf K.meaning log.now waiting.now.costs 4096 result }
+{
+    let Some(s) = least_from::<K>(waiting) else {
+        return None;
+    };
+    for q in 0..64 {
+        let p = s * 64 + q;
+        if log.at(p).is_none() && K::no_dearer(waiting.costs[p], waiting.least[s]) {
+            return Some(p);
+        }
+    }
+    unreachable!()
+}
