@@ -141,7 +141,7 @@ running_off (Opens a) es r = (refl, r)
 running_off (Closes a) es r = (refl, r)
 running_off Ends es r = absurd r
 
-is_ends : (e : Effect) → is_end e ≡ true → e ≡ Ends
+pub is_ends : (e : Effect) → is_end e ≡ true → e ≡ Ends
 is_ends Quiet h = absurd (both_ways _ refl h)
 is_ends (Opens a) h = absurd (both_ways _ refl h)
 is_ends (Closes a) h = absurd (both_ways _ refl h)

@@ -6,8 +6,7 @@ use Rattle.std.proofs.lemmas.Bool.{both_ways, cases_eq, and_parts, and_from, eqb
 use Rattle.costs.specs.Meaning.{Meaning, Lawful, Cost, NoDearer}
 use Rattle.board.specs.declared.row.Row.{Row}
 use Rattle.board.specs.declared.moves.Move.{Move}
-use Rattle.board.specs.declared.moves.Effect.{Effect}
-use Rattle.board.specs.declared.moves.Effect.TheVariants.{Quiet, Opens, Closes, Ends}
+use Rattle.board.specs.declared.moves.Effect.TheVariants.{Ends}
 use Rattle.board.specs.declared.moves.Arrival.{Arrival}
 use Rattle.board.specs.Content.{Content, Sound}
 use Rattle.board.specs.Moves.{Place, mode, moment, origin, place_number, On, Transition, is_end}
@@ -24,6 +23,7 @@ use Rattle.board.proofs.Uniqueness.{number_eq}
 use Rattle.board.proofs.Readings.{reading_cost, end_alone}
 use Rattle.board.proofs.Single.{one_reading}
 use Rattle.board.proofs.Existence.{exists}
+use Rattle.board.proofs.Accepting.{is_ends}
 
 pub joins_parts : (c : Content) (a : Record) (s q : ℕ) → joins? c a s q ≡ true → (place_number c a.from ≡ s) × (place_number c a.to ≡ q)
 joins_parts c a s q e = let z = and_parts _ _ e in (eqb-true _ _ z.0, eqb-true _ _ z.1)
@@ -48,12 +48,6 @@ between_none c (b ∷ log) s q e a i j = by (λ g k. between_none c log s q g a 
     by rest true f g k = none_some _ b g refl
     by rest false f g (inl k) = both_ways _ f (ap (λ (x : Record). joins? c x s q) (sym k) ∙ j)
     by rest false f g (inr k) = rest g k
-
-is_ends : (e : Effect) → is_end e ≡ true → e ≡ Ends
-is_ends Quiet h = absurd (both_ways _ refl h)
-is_ends (Opens n) h = absurd (both_ways _ refl h)
-is_ends (Closes n) h = absurd (both_ways _ refl h)
-is_ends Ends h = refl
 
 abbrev the_found : ℕ → ℕ → List Move → ReadingFound
 the_found i k vs = record { row = i; cost = k; moves = vs }

@@ -13,15 +13,15 @@ use Rattle.board.specs.Minima.{sort_like, StandsFor, LedAt}
 use Rattle.board.proofs.Membership.{some_eq, none_some}
 use Rattle.board.proofs.Laws.{no_dearer_same}
 
+pub kind_back : (k : RowKind) → kind_of_number (kind_number k) ≡ Some k
+kind_back Plain = refl
+kind_back Open = refl
+kind_back Close = refl
+kind_back End = refl
+
 -- kinds of one number are one
 kind_eq : (a b : RowKind) → kind_number a ≡ kind_number b → a ≡ b
-kind_eq a b e = some_eq (kind_of_number (kind_number a)) a b (again a) (ap kind_of_number e ∙ again b)
-  where
-    again : (k : RowKind) → kind_of_number (kind_number k) ≡ Some k
-    again Plain = refl
-    again Open = refl
-    again Close = refl
-    again End = refl
+kind_eq a b e = some_eq (kind_of_number (kind_number a)) a b (kind_back a) (ap kind_of_number e ∙ kind_back b)
 
 -- the row of this number, at this cost, stands for the row r
 abbrev pub Stands : Meaning → Content → Row → ℕ → ℕ → Type 0

@@ -1,6 +1,6 @@
 -- Finding the candidate of a pair that a round takes.
-use Rattle.std.proofs.Common.{◌≡◌, ℕ, ◌+◌, ◌<◌, ◌≤◌, true, false, ◌⊎◌, List, [], ◌∷◌, ◌++◌, length, get_or, Some, None, sym, refl, ap, ◌∙◌, subst, subst₂, ap₂, inl, inr, ⊎_elim, arith}
-use Rattle.std.proofs.lemmas.Bool.{cases_eq, cases_lt, both_ways, and_parts, eqb-true, and_from, eq-eqb}
+use Rattle.std.proofs.Common.{◌≡◌, ℕ, ◌+◌, ◌<◌, ◌≤◌, false, ◌⊎◌, List, [], ◌∷◌, ◌++◌, length, get_or, Some, None, sym, refl, ap, ◌∙◌, subst, subst₂, ap₂, inl, inr, ⊎_elim, arith}
+use Rattle.std.proofs.lemmas.Bool.{cases_eq, cases_lt, both_ways, and_from, eq-eqb}
 use Rattle.std.proofs.lemmas.Option.{slice_get_within}
 use Rattle.std.specs.List.{slice_get}
 use Rattle.costs.specs.Meaning.{Meaning, Lawful}
@@ -33,9 +33,6 @@ use Rattle.board.proofs.Uniqueness.{number_eq}
 use Rattle.board.proofs.Logging.{logged_in, in_logged, settled_is}
 use Rattle.board.proofs.Numbers.{pair_parts, pair_in}
 use Rattle.board.proofs.Bracketing.{goes_row}
-
-pub same_true : (p q : Place) → same_place p q ≡ true → p ≡ q
-same_true p q e = let z = and_parts _ _ e in place_eq p q (eqb-true _ _ z.0) (eqb-true _ _ z.1)
 
 pub same_false : (p q : Place) → same_place p q ≡ false → p ≡ q → ⊥
 same_false p q e f = both_ways _ e (and_from _ _ (eq-eqb _ _ (ap (λ (z : Place). mode z) f)) (eq-eqb _ _ (ap (λ (z : Place). moment z) f)))

@@ -6,13 +6,12 @@ use Rattle.std.proofs.lemmas.Bool.{cond-true, le-leb}
 use Rattle.costs.specs.Names.{letter_of}
 use Rattle.costs.specs.declared.kind_name.KindName.{KindName}
 use Rattle.costs.specs.declared.kind_name.KindName.TheVariants.{Points, Severity, Rank}
-use Rattle.board.specs.Rows.{kind_number, kind_of_number}
 use Rattle.board.specs.declared.row.Row.{Row}
 use Rattle.board.specs.declared.row.RowKind.{RowKind}
-use Rattle.board.specs.declared.row.RowKind.TheVariants as row_kind
 use Rattle.words.specs.Hex.{written_u16}
 use Rattle.words.specs.Numbers.{number_before, numbers_of}
 use Rattle.words.specs.Pieces.{spacing, pieces_of, NoSeparator}
+use Rattle.board.proofs.Leads.{kind_back}
 use Rattle.words.proofs.Digits.{reads_back}
 use Rattle.words.proofs.HexDigits.{bytes_read_back, number_reads_back}
 use Rattle.script.specs.Calls.{Call, kind, size, row, line, reprice_row, reprice_line, clear, load, settle, reopen, cost, path, between, check}
@@ -112,12 +111,6 @@ says_kind : (k : KindName) → kind_word (letter_of k ∷ []) ≡ Some (kind k)
 says_kind Points = refl
 says_kind Severity = refl
 says_kind Rank = refl
-
-kind_back : (k : RowKind) → kind_of_number (kind_number k) ≡ Some k
-kind_back row_kind.Plain = refl
-kind_back row_kind.Open = refl
-kind_back row_kind.Close = refl
-kind_back row_kind.End = refl
 
 abbrev with_kind : Row → RowKind → Call
 with_kind r k = row record { kind = k; from = r.from; to = r.to; label = r.label; action = r.action; cost = r.cost }

@@ -1,6 +1,7 @@
 use Rattle.std.proofs.Common.{rules, ℕ, None, get_or, sym, ap, ◌∙◌, arith}
 use Rattle.board.proofs.Knowing.{ready_of}
-use Rattle.board.proofs.Winning.{same_true, same_false, start_in, from_start, no_front, no_arrival, no_quiet, no_end, no_cost, step_wins}
+use Rattle.board.proofs.Candidates.{same_place_eq}
+use Rattle.board.proofs.Winning.{same_false, start_in, from_start, no_front, no_arrival, no_quiet, no_end, no_cost, step_wins}
 use Rattle.board.proofs.settling.Known.step_from.Goals as goal
 
 pub at-requires : goal.at-requires
@@ -40,4 +41,4 @@ returns-then-join-goal g c =
 pub returns : goal.returns
 returns g c =
     let a = c.args.self.now in
-    step_wins g.met.K.Kind.lawful (ready_of a) c.args.goal c.requires.on c.args.v c.args.place c.requires.place c.requires.starts c.in-Some.i c.in-Some-arrival.h (sym (c.at.ensures ∙ ap (λ (p : ℕ). get_or a.log.now.index p None) c.pair.ensures) ∙ c.in-Some.is) (sym c.arrival.ensures ∙ c.in-Some-arrival.is) c.in-Quiet.is (same_true c.in-Some-arrival.h.to c.args.goal.to (search rules)) (sym c.join.ensures ∙ c.if-join-goal.false)
+    step_wins g.met.K.Kind.lawful (ready_of a) c.args.goal c.requires.on c.args.v c.args.place c.requires.place c.requires.starts c.in-Some.i c.in-Some-arrival.h (sym (c.at.ensures ∙ ap (λ (p : ℕ). get_or a.log.now.index p None) c.pair.ensures) ∙ c.in-Some.is) (sym c.arrival.ensures ∙ c.in-Some-arrival.is) c.in-Quiet.is (same_place_eq c.in-Some-arrival.h.to c.args.goal.to (search rules)) (sym c.join.ensures ∙ c.if-join-goal.false)
