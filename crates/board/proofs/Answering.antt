@@ -14,7 +14,7 @@ use Rattle.board.specs.Content.{Content, Sound}
 use Rattle.board.specs.Moves.{Place, On, place_number}
 use Rattle.board.specs.Paths.{BalancedPath}
 use Rattle.board.specs.Packing.{packed}
-use Rattle.board.specs.Settling.{Record, Settled, RecordedReading}
+use Rattle.board.specs.Settling.{Record, Settled}
 use Rattle.board.specs.Computing.{record_between, ReadingFound, found}
 use Rattle.board.specs.Promises.{Cheapest}
 use Rattle.board.specs.Questions.{recorded_cost, between_answer, cost_told, cost_answer, fits, path_told, path_written, path_answer, path_after, CostMeans, PathMeans, Pair, BetweenMeans}
@@ -27,14 +27,11 @@ module _ {m : Meaning} {c : Content} (laws : Lawful m) (sound : Sound m c) {log 
   promised : Cheapest m c log
   promised = (settling_promises m c laws sound).1 log d
 
-  recorded : (f : ReadingFound) → found m c log ≡ Some f → RecordedReading m c log f.cost f.moves
-  recorded f e = found_recorded laws sound d.reached f e
-
   -- cost
   cost_by : (o : Option ReadingFound) → found m c log ≡ o → CostMeans m c log (cost_told o)
   cost_by None e = (refl, promised.none.0 (found_none laws sound d.reached e))
   cost_by (Some f) e =
-      let r = recorded f e in
+      let r = found_recorded laws sound d.reached f e in
       record {
         reading = f.moves;
         recorded = r;
@@ -53,7 +50,7 @@ module _ {m : Meaning} {c : Content} (laws : Lawful m) (sound : Sound m c) {log 
 
   path_fits : (f : ReadingFound) (buffer : List ℕ) → found m c log ≡ Some f → (t : Bool) → fits f buffer ≡ t → PathMeans m c log buffer (cond t (Ok (length f.moves)) (Err TooLong)) (cond t (map packed f.moves ++ drop (length f.moves) buffer) buffer)
   path_fits f buffer e true h =
-      let r = recorded f e in
+      let r = found_recorded laws sound d.reached f e in
       let z = and_parts _ _ h in
       record {
         cost = f.cost;
@@ -67,7 +64,7 @@ module _ {m : Meaning} {c : Content} (laws : Lawful m) (sound : Sound m c) {log 
         written = refl;
         checked = promised.checked _ _ r;
       }
-  path_fits f buffer e false h = (inr (refl, record { cost = f.cost; reading = f.moves; recorded = recorded f e; longer = longer f buffer h }), refl)
+  path_fits f buffer e false h = (inr (refl, record { cost = f.cost; reading = f.moves; recorded = found_recorded laws sound d.reached f e; longer = longer f buffer h }), refl)
 
   path_by : (o : Option ReadingFound) (buffer : List ℕ) → found m c log ≡ o → PathMeans m c log buffer (path_told o buffer) (path_written o buffer)
   path_by None buffer e = (inl (refl, promised.none.0 (found_none laws sound d.reached e)), refl)

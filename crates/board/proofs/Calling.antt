@@ -18,6 +18,7 @@ use Rattle.board.specs.Logged.{pair_of, derivation_of, record_of}
 use Rattle.board.specs.Logs.{records, numbered, nth_record, Ready}
 use Rattle.board.specs.Minima.{Link, StandsFor}
 use Rattle.board.specs.Winning.{GoalOn, Makes, made, Wins, Finds, CallAt, CallsBy, CallsOpened, Calls, Gathered, TightAt, Brackets, ServeIn, is_close, closes_to}
+use Rattle.board.proofs.Standing.{leaves_on, enters_on}
 use Rattle.board.proofs.Laws.{no_dearer_same}
 use Rattle.board.proofs.Membership.{some_eq, none_some}
 use Rattle.board.proofs.Diagonal.{place_eq}
@@ -88,15 +89,6 @@ module _ {m : Meaning} {c : Content} {l : Log} (laws : Lawful m) (ready : Ready 
 
   -- an open row
   module _ (o : ℕ) (a : Row) (row_is : slice_get c.rows o ≡ Some a) (opens : a.kind ≡ Open) where
-    pub open_place : (t : ℕ) → t < c.moments → On c (a.from, t)
-    open_place t h = ((ready.sound.sound_rows o a row_is).from_in, h)
-
-    pub entry_place : (t : ℕ) → t < c.moments → On c (a.to, t)
-    entry_place t h = ((ready.sound.sound_rows o a row_is).to_in, h)
-
-    pub place_in_mode : (p : Place) → mode p ≡ a.from → moment p < c.moments → On c p
-    place_in_mode p e h = let f = (ready.sound.sound_rows o a row_is).from_in in (omega arith, h)
-
     -- where a call that it opens starts and enters
     front_at : {w t : ℕ} (x : CallParts m c l g o w t) → (numbered l x.front).to ≡ (a.from, t)
     front_at {w} {t} x = place_eq (numbered l x.front).to (a.from, t) (bracket_leaves o a row_is x.opens) x.when
@@ -112,6 +104,9 @@ module _ {m : Meaning} {c : Content} {l : Log} (laws : Lawful m) (ready : Ready 
 
     front_index : {w t : ℕ} (x : CallParts m c l g o w t) → get_or l.index (pair_of c g.from (a.from, t)) None ≡ Some x.front
     front_index x = ap₂ (λ (p q : Place). get_or l.index (pair_of c p q) None) (sym x.starts) (sym (front_at x)) ∙ ready.book.found x.front x.front_in
+
+    inside_index : {w t : ℕ} (x : CallParts m c l g o w t) (q : Place) → (numbered l x.inside).to ≡ q → get_or l.index (pair_of c (a.to, t) q) None ≡ Some x.inside
+    inside_index x q to = ap₂ (λ (p q : Place). get_or l.index (pair_of c p q) None) (sym (inside_from x)) (sym to) ∙ ready.book.found x.inside x.inside_in
 
     -- its front's place is tight
     is_tight : {w t : ℕ} (x : CallParts m c l g o w t) → TightAt m c l g (place_number c (a.from, t))
@@ -149,7 +144,7 @@ module _ {m : Meaning} {c : Content} {l : Log} (laws : Lawful m) (ready : Ready 
 
     -- so the list has it
     listed : (xs : List ℕ) → Gathered (TightAt m c l g) 64 xs → {w t : ℕ} (x : CallParts m c l g o w t) → (n : ℕ) × (n < length xs) × (get_or xs n 0 ≡ place_number c (a.from, t))
-    listed xs all {w} {t} x = all.complete (place_number c (a.from, t)) (number_in c (a.from, t) ready.sound.few_places (open_place t (moment_in x))) (is_tight x)
+    listed xs all {w} {t} x = all.complete (place_number c (a.from, t)) (number_in c (a.from, t) ready.sound.few_places (leaves_on ready.sound o a row_is t (moment_in x))) (is_tight x)
 
     -- the place of a number of the list
     module _ (xs : List ℕ) (all : Gathered (TightAt m c l g) 64 xs) (n : ℕ) (p : Place) (number_is : place_number c p ≡ get_or xs n 0) (there : moment p < c.moments) where
@@ -207,8 +202,7 @@ module _ {m : Meaning} {c : Content} {l : Log} (laws : Lawful m) (ready : Ready 
           serves_index : get_or l.index (pair_of c (a.to, t) (b.from, moment g.to)) None ≡ Some x.inside
           serves_index =
               let from : mode (numbered l x.inside).to ≡ b.from = x.closes.leaves ∙ sym s.leaves ∙ ap (λ (r : Row). r.from) serves_is in
-              let to : (numbered l x.inside).to ≡ (b.from, moment g.to) = place_eq (numbered l x.inside).to (b.from, moment g.to) from (bracket_alone (closes_not_quiet x.bracket) x.closes).1 in
-              ap₂ (λ (p q : Place). get_or l.index (pair_of c p q) None) (sym (inside_from x)) (sym to) ∙ ready.book.found x.inside x.inside_in
+              inside_index x (b.from, moment g.to) (place_eq (numbered l x.inside).to (b.from, moment g.to) from (bracket_alone (closes_not_quiet x.bracket) x.closes).1)
 
           pub serves_no_inside : get_or l.index (pair_of c (a.to, t) (b.from, moment g.to)) None ≡ None → ⊥
           serves_no_inside e = none_some _ _ e serves_index
@@ -234,30 +228,27 @@ module _ {m : Meaning} {c : Content} {l : Log} (laws : Lawful m) (ready : Ready 
       inside_to : {t : ℕ} (x : CallParts m c l g o w t) → (numbered l x.inside).to ≡ (b.from, moment g.to)
       inside_to x = place_eq (numbered l x.inside).to (b.from, moment g.to) (bracket_leaves w b rows.closing x.closes) (bracket_alone (closes_not_quiet x.bracket) x.closes).1
 
-      pub inside_place : On c (b.from, moment g.to)
-      inside_place = ((ready.sound.sound_rows w b rows.closing).from_in, on.1.1)
-
-      inside_index : {t : ℕ} (x : CallParts m c l g o w t) → get_or l.index (pair_of c (a.to, t) (b.from, moment g.to)) None ≡ Some x.inside
-      inside_index x = ap₂ (λ (p q : Place). get_or l.index (pair_of c p q) None) (sym (inside_from x)) (sym (inside_to x)) ∙ ready.book.found x.inside x.inside_in
+      inside_there : {t : ℕ} (x : CallParts m c l g o w t) → get_or l.index (pair_of c (a.to, t) (b.from, moment g.to)) None ≡ Some x.inside
+      inside_there x = inside_index x _ (inside_to x)
 
       pub call_no_front : (t : ℕ) → get_or l.index (pair_of c g.from (a.from, t)) None ≡ None → Finds m c l g (CallAt o w t) None
       call_no_front t e y k d = none_some _ _ e (front_index (call_parts o w t y k d))
 
       pub call_no_inside : (t : ℕ) → get_or l.index (pair_of c (a.to, t) (b.from, moment g.to)) None ≡ None → Finds m c l g (CallAt o w t) None
-      call_no_inside t e y k d = none_some _ _ e (inside_index (call_parts o w t y k d))
+      call_no_inside t e y k d = none_some _ _ e (inside_there (call_parts o w t y k d))
 
       module _ (t i j : ℕ) (there : t < c.moments) (at : get_or l.index (pair_of c g.from (a.from, t)) None ≡ Some i) (at' : get_or l.index (pair_of c (a.to, t) (b.from, moment g.to)) None ≡ Some j) where
         pub call_no_cost : (m.join (m.join (m.join (numbered l i).cost a.cost) (numbered l j).cost) b.cost ≡ g.cost → ⊥) → Finds m c l g (CallAt o w t) None
         call_no_cost far y k d =
             let x = call_parts o w t y k d in
             let ei : i ≡ x.front = some_eq _ _ _ at (front_index x) in
-            let ej : j ≡ x.inside = some_eq _ _ _ at' (inside_index x) in
+            let ej : j ≡ x.inside = some_eq _ _ _ at' (inside_there x) in
             far ((λ z. m.join (m.join (m.join (numbered l (ei z)).cost (sym (bracket_price o a row_is x.opens) z)) (numbered l (ej z)).cost) (sym (bracket_price w b rows.closing x.closes) z)) ∙ x.costs)
 
         pub call_wins : m.join (m.join (m.join (numbered l i).cost a.cost) (numbered l j).cost) b.cost ≡ g.cost → Wins m c l g (CallAt o w t) (Call i j o w t)
         call_wins costs =
-            let fi = between_places ready g.from (a.from, t) on.0 (open_place t there) i at in
-            let fj = between_places ready (a.to, t) (b.from, moment g.to) (entry_place t there) inside_place j at' in
+            let fi = between_places ready g.from (a.from, t) on.0 (leaves_on ready.sound o a row_is t there) i at in
+            let fj = between_places ready (a.to, t) (b.from, moment g.to) (enters_on ready.sound o a row_is t there) (leaves_on ready.sound w b rows.closing _ on.1.1) j at' in
             let ni = not_both a.kind opens in
             let nj = not_close b.kind rows.closes in
             let go-in : Transition m c (bare o) (numbered l i).to (numbered l j).from a.cost (Opens a.label) = bracket_goes o a row_is (Opens a.label) (effect_open a opens) ni.0 ni.1 (numbered l i).to (numbered l j).from (ap (λ (z : Place). mode z) fi.2) (subst (λ (n : ℕ). n < c.moments) (sym (ap (λ (z : Place). moment z) fi.2)) there) (fj.1 ∙ ap (λ (n : ℕ). (a.to, n)) (sym (ap (λ (z : Place). moment z) fi.2))) in

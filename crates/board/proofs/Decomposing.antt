@@ -1,5 +1,5 @@
 -- Balanced paths, taken apart at their last step or call.
-use Rattle.std.proofs.Common.{◌≡◌, ℕ, ◌<◌, List, [], ◌∷◌, ◌++◌, Option, sym, refl, ap, ◌∙◌, subst, ⊎_elim, append_assoc, append-nil, arith}
+use Rattle.std.proofs.Common.{◌≡◌, ℕ, List, [], ◌∷◌, ◌++◌, Option, sym, refl, ap, ◌∙◌, subst, ⊎_elim, append_assoc, append-nil}
 use Rattle.costs.specs.Meaning.{Meaning, Lawful, Cost}
 use Rattle.costs.specs.Lists.{Costs, joined, joined_onto}
 use Rattle.costs.proofs.Joining.{joined_cost, onto_total}
@@ -8,7 +8,7 @@ use Rattle.board.specs.declared.moves.Move.{Move}
 use Rattle.board.specs.declared.moves.Effect.{Effect}
 use Rattle.board.specs.declared.moves.Effect.TheVariants.{Quiet, Opens, Closes, Ends}
 use Rattle.board.specs.Content.{Content, Sound}
-use Rattle.board.specs.Moves.{Place, mode, moment, On, Untimed, Timed, Transition}
+use Rattle.board.specs.Moves.{Place, Untimed, Timed, Transition}
 use Rattle.board.specs.Paths.{Path, stop, go, Dyck, empty, both, pair, brackets, Balanced, Running}
 
 -- A balanced path without end rows, built at its end by steps and calls.
@@ -29,14 +29,6 @@ module _ {m : Meaning} {c : Content} (laws : Lawful m) (sound : Sound m c) where
   transition_cost g =
       let h = (sound.sound_rows _ _ g.found).price in
       ⊎_elim (λ s. untimed_cost h s) (λ s. timed_cost h s) g.time
-
-  -- a move leads to a place of the board
-  pub transition_on : {v : Move} {p q : Place} {k : ℕ} {e : Effect} → Transition m c v p q k e → On c q
-  transition_on {v} {p} {q} g =
-      let h = (sound.sound_rows _ _ g.found).to_in in
-      let mode-in : mode q < c.modes = omega (arith, g.enters) in
-      let moment-in : moment q < c.moments = ⊎_elim (λ s. omega arith) (λ s. omega (arith, (sound.sound_lines s.number s.taken s.found).to_in)) g.time in
-      (mode-in, moment-in)
 
   pub path_costs : {vs : List Move} {p q : Place} {ks : List ℕ} {es : List Effect} → Path m c vs p q ks es → Costs m ks
   path_costs stop = tt

@@ -7,6 +7,7 @@ pub mod Laws
 pub mod Membership
 pub mod Diagonal
 pub mod Transitions
+pub mod Standing
 pub mod Candidates
 pub mod Precedence
 pub mod Decomposing

@@ -9,7 +9,7 @@ use Rattle.board.specs.declared.log.Log.{Log}
 use Rattle.board.specs.declared.log.Way.{Way}
 use Rattle.board.specs.declared.settling.Waiting.{Waiting}
 use Rattle.board.specs.Content.{Content}
-use Rattle.board.specs.Moves.{Place, mode, moment, On, place_number, effect, Transition}
+use Rattle.board.specs.Moves.{Place, mode, moment, place_number, effect, Transition}
 use Rattle.board.specs.Settling.{Record, bare, step_record, call_record, step, call}
 use Rattle.board.specs.Logged.{pair_of}
 use Rattle.board.specs.Logs.{records, numbered, nth_record, Ready}
@@ -17,13 +17,14 @@ use Rattle.board.specs.Lowering.{Attained, lowered, Lowered, Among, Just}
 use Rattle.board.specs.Minima.{Link, CandidateAt, FollowedBy, FollowedFrom, Linked, RowsLeast, BracketedBy, BracketedIf, BracketedOn, BracketedIn}
 use Rattle.board.specs.Winning.{is_close, closes_from}
 use Rattle.board.proofs.Membership.{some_eq, none_some}
-use Rattle.board.proofs.Decomposing.{transition_cost, transition_on}
+use Rattle.board.proofs.Standing.{enters_on, transition_from, transition_to}
+use Rattle.board.proofs.Decomposing.{transition_cost}
 use Rattle.board.proofs.Diagonal.{place_eq}
 use Rattle.board.proofs.Uniqueness.{number_eq, bracket_alone, opens_not_quiet, closes_not_quiet, transition_back}
 use Rattle.board.proofs.Logging.{in_logged, logged_in}
 use Rattle.board.proofs.Minimal.{Priced, candidate_cost}
 use Rattle.board.proofs.Bracketing.{goes_row, small_number, bracket_leaves, bracket_enters, bracket_price, bracket_does, bracket_goes, effect_close, not_close, close_kind, close_is}
-use Rattle.board.proofs.Plain.{transition_from, plain_cost, plain_in}
+use Rattle.board.proofs.Plain.{plain_cost, plain_in}
 use Rattle.board.proofs.Lowering.{lowered_one, lowered_for, lowered_same, attained_cost, worst_or}
 
 module _ {m : Meaning} {c : Content} {l : Log} (laws : Lawful m) (ready : Ready m c l) where
@@ -38,7 +39,7 @@ module _ {m : Meaning} {c : Content} {l : Log} (laws : Lawful m) (ready : Ready 
   pub bracketed_fits : (j : ℕ) → j < l.count → (o w p k : ℕ) → BracketedBy m c (numbered l j) o w p k → (p < 4096) × Cost m k
   bracketed_fits j h o w p k x =
       let a = small_number ready.sound x.place (transition_from ready.sound x.opens) in
-      let b = small_number ready.sound x.exit (transition_on laws ready.sound x.closes) in
+      let b = small_number ready.sound x.exit (transition_to ready.sound x.closes) in
       (omega (arith, x.at), subst (Cost m) (sym x.cost_is) (laws.join_cost _ _ (transition_cost laws ready.sound x.opens) (laws.join_cost _ _ (entry_cost j h) (transition_cost laws ready.sound x.closes))))
 
   pub link_cost : (p k : ℕ) → Link m c l p k → Cost m k
@@ -62,7 +63,7 @@ module _ {m : Meaning} {c : Content} {l : Log} (laws : Lawful m) (ready : Ready 
   -- an entry and then a link make a candidate
   followed_candidate : (i q k : ℕ) → i < l.count → q < 64 → Link m c l (place_number c (numbered l i).to * 64 + q) k → CandidateAt m c l (place_number c (numbered l i).from * 64 + q) (m.join (numbered l i).cost k)
   followed_candidate i q k h hq (inl (v, x)) =
-      let b = small_number ready.sound x.exit (transition_on laws ready.sound x.goes) in
+      let b = small_number ready.sound x.exit (transition_to ready.sound x.goes) in
       let place : (numbered l i).to ≡ x.place = number_eq c _ _ (ready.book.kept i h).to_on (transition_from ready.sound x.goes) (omega (arith, x.at)) in
       record {
         it = step_record m (nth_record l i) v x.exit k;
@@ -71,7 +72,7 @@ module _ {m : Meaning} {c : Content} {l : Log} (laws : Lawful m) (ready : Ready 
         cost_is = refl;
       }
   followed_candidate i q k h hq (inr (j, hj, o, w, x)) =
-      let b = small_number ready.sound x.exit (transition_on laws ready.sound x.closes) in
+      let b = small_number ready.sound x.exit (transition_to ready.sound x.closes) in
       let place : (numbered l i).to ≡ x.place = number_eq c _ _ (ready.book.kept i h).to_on (transition_from ready.sound x.opens) (omega (arith, x.at)) in
       record {
         it = call_record m (nth_record l i) (bare o) x.price (nth_record l j) (bare w) x.last x.exit;
@@ -200,9 +201,6 @@ module _ {m : Meaning} {c : Content} {l : Log} (laws : Lawful m) (ready : Ready 
           both_ways _ e (and_from _ _ (ap is_close z.0) (and_from _ _ (eq-eqb _ _ (sym z.1 ∙ (same_opening p k x).2)) (eq-eqb _ _ (sym (bracket_leaves w b row_is x.closes)))))
 
       module _ (follows : closes_from b way.bracket (mode (numbered l j).to) ≡ true) where
-        exit_on : On c (b.to, moment (numbered l j).to)
-        exit_on = ((ready.sound.sound_rows w b row_is).to_in, (ready.book.kept j within).to_on.1)
-
         closes : Transition m c (bare w) (numbered l j).to (b.to, moment (numbered l j).to) b.cost (Closes way.bracket)
         closes =
             let p1 = and_parts _ _ follows in
@@ -213,7 +211,7 @@ module _ {m : Meaning} {c : Content} {l : Log} (laws : Lawful m) (ready : Ready 
 
         -- the numbers are small
         pub bracket_small : (place_number c place < 64) × (place_number c (b.to, moment (numbered l j).to) < 64)
-        bracket_small = (small_number ready.sound place (transition_from ready.sound opens), small_number ready.sound _ exit_on)
+        bracket_small = (small_number ready.sound place (transition_from ready.sound opens), small_number ready.sound _ (enters_on ready.sound w b row_is _ (ready.book.kept j within).to_on.1))
 
         pub bracket_link : (k : ℕ) → k ≡ m.join way.cost (m.join (numbered l j).cost b.cost) → (k ≡ m.worst) ⊎ Link m c l (place_number c place * 64 + place_number c (b.to, moment (numbered l j).to)) k
         bracket_link k e = inr (inr (j, within, o, w, record { place = place; exit = (b.to, moment (numbered l j).to); bracket = way.bracket; price = way.cost; last = b.cost; opens = opens; closes = closes; at = refl; cost_is = e }))

@@ -12,7 +12,8 @@ use Rattle.board.specs.Promises.{RecordedWithin, LeastCost}
 use Rattle.board.proofs.Laws.{no_dearer_same, no_dearer_eq, no_dearer_left, cheaper_no_dearer, join_no_dearer, cheaper_down, free_below, call_first, call_second}
 use Rattle.board.proofs.Membership.{in_right}
 use Rattle.board.proofs.Diagonal.{started, in_rounds, Held, find}
-use Rattle.board.proofs.Decomposing.{GrownPath, none_yet, then_step, then_call, grown_of, grown_cost, transition_cost, transition_on}
+use Rattle.board.proofs.Standing.{transition_to}
+use Rattle.board.proofs.Decomposing.{GrownPath, none_yet, then_step, then_call, grown_of, grown_cost, transition_cost}
 use Rattle.board.proofs.Spelling.{spelled, balanced_cost}
 use Rattle.board.proofs.Pairs.{distinct}
 
@@ -146,7 +147,7 @@ module _ {m : Meaning} {c : Content} (laws : Lawful m) (sound : Sound m c) where
       let hl = transition_cost laws sound g' in
       let ht = laws.join_cost _ _ (laws.join_cost _ _ (laws.join_cost _ _ hn hk) hn') hl in
       let hw = laws.worst_cost in
-      within_call d hn hn' (grown_within d r on (cheaper_eq _ _ _ hn ht hw _ e (call_first laws _ _ _ _ hn hk hn' hl) below)) g (grown_within d r' (transition_on laws sound g) (cheaper_eq _ _ _ hn' ht hw _ e (call_second laws _ _ _ _ hn hk hn' hl) below)) g' e below
+      within_call d hn hn' (grown_within d r on (cheaper_eq _ _ _ hn ht hw _ e (call_first laws _ _ _ _ hn hk hn' hl) below)) g (grown_within d r' (transition_to sound g) (cheaper_eq _ _ _ hn' ht hw _ e (call_second laws _ _ _ _ hn hk hn' hl) below)) g' e below
 
   pub minimal : {log : List Record} {vs : List Move} {s q : Place} {k : ℕ} → Settled m c log → On c s → BalancedPath m c vs s q k → Cheaper m k m.worst → RecordedWithin m log s q k
   minimal {log} {s = s} {q = q} d on b below =

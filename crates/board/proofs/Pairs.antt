@@ -4,7 +4,7 @@ use Rattle.costs.specs.Meaning.{Meaning, Lawful}
 use Rattle.board.specs.Content.{Content, Sound}
 use Rattle.board.specs.Moves.{On}
 use Rattle.board.specs.Settling.{In, Record, start_record, Candidate, step, call, Rounds, begin, round}
-use Rattle.board.proofs.Decomposing.{transition_on}
+use Rattle.board.proofs.Standing.{transition_to}
 use Rattle.board.proofs.Diagonal.{started, diagonal_on}
 
 abbrev pub Distinct : List Record → Type 0
@@ -35,8 +35,8 @@ from_on (round s r) a (inr i) = from_on s a i
 
 module _ {m : Meaning} {c : Content} (laws : Lawful m) (sound : Sound m c) where
   pub candidate_to : {log : List Record} {x : Record} → Candidate m c log x → On c x.to
-  candidate_to (step a i g) = transition_on laws sound g
-  candidate_to (call a b i g j h) = transition_on laws sound h
+  candidate_to (step a i g) = transition_to sound g
+  candidate_to (call a b i g j h) = transition_to sound h
 
   -- a candidate's pair
   pub candidate_on : {n : ℕ} {log : List Record} {x : Record} → Rounds m c n log → Candidate m c log x → On c x.from × On c x.to

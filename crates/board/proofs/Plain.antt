@@ -12,7 +12,7 @@ use Rattle.board.specs.declared.moves.Arrival.{Arrival}
 use Rattle.board.specs.declared.moves.Effect.{Effect}
 use Rattle.board.specs.declared.moves.Effect.TheVariants.{Quiet}
 use Rattle.board.specs.Content.{Content, Sound}
-use Rattle.board.specs.Moves.{Place, mode, moment, On, Transition}
+use Rattle.board.specs.Moves.{Place, mode, moment, Transition}
 use Rattle.board.specs.Arrivals.{arrival_on}
 use Rattle.board.specs.Settling.{bare}
 use Rattle.board.specs.Logged.{pair_of}
@@ -20,21 +20,13 @@ use Rattle.board.specs.Lowering.{Costing, Attained, lowered, Lowered, Among}
 use Rattle.board.specs.Minima.{Plain, PlainlyFrom, PlainlyBy, PlainlyAt, PlainlyAlong}
 use Rattle.board.proofs.Membership.{some_eq, none_some}
 use Rattle.board.proofs.Transitions.{arrival_transition, transition_arrival}
-use Rattle.board.proofs.Decomposing.{transition_cost, transition_on}
+use Rattle.board.proofs.Standing.{transition_from, transition_to}
+use Rattle.board.proofs.Decomposing.{transition_cost}
 use Rattle.board.proofs.Diagonal.{place_eq}
 use Rattle.board.proofs.Numbers.{pair_in}
 use Rattle.board.proofs.Candidates.{move_eq}
 use Rattle.board.proofs.Bracketing.{goes_row}
 use Rattle.board.proofs.Lowering.{lowered_one, lowered_for, lowered_same}
-
--- a move starts at a place of the board
-module _ {m : Meaning} {c : Content} (sound : Sound m c) where
-  pub transition_from : {v : Move} {p q : Place} {k : ℕ} {e : _} → Transition m c v p q k e → On c p
-  transition_from {v} {p} g =
-      let h = (sound.sound_rows _ _ g.found).from_in in
-      let mode-in : mode p < c.modes = omega (arith, g.leaves) in
-      let moment-in : moment p < c.moments = ⊎_elim (λ s. s.there) (λ s. omega (arith, s.start, (sound.sound_lines s.number s.taken s.found).from_in)) g.time in
-      (mode-in, moment-in)
 
 -- the worst everywhere is attained
 pub worst_attained : (m : Meaning) (R : Costing) (n k : ℕ) → k ≡ m.worst → Attained m R (replicate n k)
@@ -45,7 +37,7 @@ module _ {m : Meaning} {c : Content} (laws : Lawful m) (sound : Sound m c) where
   plain_cost p k (v, x) = transition_cost laws sound x.goes
 
   pub plain_in : (p k : ℕ) → Plain m c p k → p < 4096
-  plain_in p k (v, x) = subst (λ (i : ℕ). i < 4096) (sym x.at) (pair_in c x.place x.exit sound.few_places (transition_from sound x.goes) (transition_on laws sound x.goes))
+  plain_in p k (v, x) = subst (λ (i : ℕ). i < 4096) (sym x.at) (pair_in c x.place x.exit sound.few_places (transition_from sound x.goes) (transition_to sound x.goes))
 
   -- what goes from a place is a link
   from_plain : (v : Move) (place : Place) (p k : ℕ) → PlainlyFrom m c v place p k → Plain m c p k

@@ -19,7 +19,8 @@ use Rattle.board.specs.Winning.{LeastPair, LeastOf, GoalOn, Makes, made, Wins, F
 use Rattle.board.proofs.Membership.{none_some}
 use Rattle.board.proofs.Laws.{no_dearer_same, cheaper_or}
 use Rattle.board.proofs.Minimal.{candidate_cost}
-use Rattle.board.proofs.Decomposing.{transition_cost, transition_on}
+use Rattle.board.proofs.Standing.{transition_to}
+use Rattle.board.proofs.Decomposing.{transition_cost}
 use Rattle.board.proofs.Uniqueness.{number_eq, bracket_alone, opens_not_quiet, closes_not_quiet}
 use Rattle.board.proofs.Candidates.{move_eq}
 use Rattle.board.proofs.Logging.{logged_in, in_logged}
@@ -64,7 +65,7 @@ module _ {m : Meaning} {c : Content} {l : Log} {s : Minima} (laws : Lawful m) (s
   covered (step a {v} {q} {k} i t) =
       let r = logged_in l.entries l.count a i in
       let t' = subst (λ (p : Place). Transition m c v p q k Quiet) (ap (λ (x : Record). x.to) r.2) t in
-      let hq = small_number state.ready.sound q (transition_on laws state.ready.sound t) in
+      let hq = small_number state.ready.sound q (transition_to state.ready.sound t) in
       subst (λ (x : Record). NoDearer m (get_or s.waiting.costs (pair_of c x.from q) 0) (m.join x.cost k)) (sym r.2) (link_covered r.0 (place_number c q) k r.1 hq (inl (v, record { place = (numbered l r.0).to; exit = q; goes = t'; at = refl })))
   covered (call a b {o} {w} {q} {k} {l = last} {n} i t j u) =
       let ra = logged_in l.entries l.count a i in
@@ -73,7 +74,7 @@ module _ {m : Meaning} {c : Content} {l : Log} {s : Minima} (laws : Lawful m) (s
       let mw : w ≡ bare w.row = move_eq w (bare w.row) refl (bracket_alone (closes_not_quiet n) u).0 in
       let t' : Transition m c (bare o.row) (numbered l ra.0).to (numbered l rb.0).from k (Opens n) = subst (λ (z : Move). Transition m c z (numbered l ra.0).to (numbered l rb.0).from k (Opens n)) mo (subst₂ (λ (p r : Place). Transition m c o p r k (Opens n)) (ap (λ (x : Record). x.to) ra.2) (ap (λ (x : Record). x.from) rb.2) t) in
       let u' : Transition m c (bare w.row) (numbered l rb.0).to q last (Closes n) = subst (λ (z : Move). Transition m c z (numbered l rb.0).to q last (Closes n)) mw (subst (λ (p : Place). Transition m c w p q last (Closes n)) (ap (λ (x : Record). x.to) rb.2) u) in
-      let q-on = transition_on laws state.ready.sound u in
+      let q-on = transition_to state.ready.sound u in
       let hq = small_number state.ready.sound q q-on in
       let low = link_covered ra.0 (place_number c q) (m.join k (m.join (numbered l rb.0).cost last)) ra.1 hq (inr (
         rb.0,
@@ -97,8 +98,8 @@ module _ {m : Meaning} {c : Content} {l : Log} {s : Minima} (laws : Lawful m) (s
 
   -- a candidate's places
   candidate_on : {y : Record} → Candidate m c (records l) y → On c y.from × On c y.to
-  candidate_on (step a i t) = let r = logged_in l.entries l.count a i in (subst (λ (x : Record). On c x.from) (sym r.2) (state.ready.book.kept r.0 r.1).from_on, transition_on laws state.ready.sound t)
-  candidate_on (call a b i t j u) = let r = logged_in l.entries l.count a i in (subst (λ (x : Record). On c x.from) (sym r.2) (state.ready.book.kept r.0 r.1).from_on, transition_on laws state.ready.sound u)
+  candidate_on (step a i t) = let r = logged_in l.entries l.count a i in (subst (λ (x : Record). On c x.from) (sym r.2) (state.ready.book.kept r.0 r.1).from_on, transition_to state.ready.sound t)
+  candidate_on (call a b i t j u) = let r = logged_in l.entries l.count a i in (subst (λ (x : Record). On c x.from) (sym r.2) (state.ready.book.kept r.0 r.1).from_on, transition_to state.ready.sound u)
 
   pair_small : {y : Record} → Candidate m c (records l) y → pair_of c y.from y.to < 4096
   pair_small {y} k = let on = candidate_on k in pair_in c y.from y.to state.ready.sound.few_places on.0 on.1

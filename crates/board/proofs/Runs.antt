@@ -57,14 +57,15 @@ module _ {m : Meaning} {c : Content} (laws : Lawful m) (sound : Sound m c) where
   kept_cost : {n : ℕ} {log : List Record} → Rounds m c n log → (a : Record) → In a (unsettled_of log (candidates m c log)) → Cost m a.cost
   kept_cost {log = log} s a i = candidate_cost laws sound (priced laws sound s) (unlisted m c log a (unsettled_in log _ a i).0)
 
+  -- what is left has a first candidate
+  first_left : {n : ℕ} {log : List Record} → Rounds m c n log → (y : Record) (ys : List Record) → unsettled_of log (candidates m c log) ≡ y ∷ ys → In (first_by (precedes? m c) y ys) (y ∷ ys) × ((z : Record) → In z (y ∷ ys) → Precedes m c (first_by (precedes? m c) y ys) z)
+  first_left s y ys e = first_candidate laws c y ys (λ a i. kept_cost s a (subst (λ l. In a l) (sym e) i))
+
   -- what `next` gives is the round's record
   next_some : {n : ℕ} {log : List Record} → Rounds m c n log → (x : Record) (xs : List Record) → unsettled_of log (candidates m c log) ≡ xs → next_of m c xs ≡ Some x → Round m c log x
   next_some s x [] e f = absurd cc
   next_some {log = log} s x (y ∷ ys) e f = stop? (m.no_dearer m.worst (first_by (precedes? m c) y ys).cost) refl f
     where
-      is_first : In (first_by (precedes? m c) y ys) (y ∷ ys) × ((z : Record) → In z (y ∷ ys) → Precedes m c (first_by (precedes? m c) y ys) z)
-      is_first = first_candidate laws c y ys (λ a i. kept_cost s a (subst (λ l. In a l) (sym e) i))
-
       made : (b : Record) → In b (y ∷ ys) → ((z : Record) → In z (y ∷ ys) → Precedes m c b z) → Cheaper m b.cost m.worst → Round m c log b
       made b i first below =
           let k = unsettled_in log _ b (subst (λ l. In b l) (sym e) i) in
@@ -79,7 +80,8 @@ module _ {m : Meaning} {c : Content} (laws : Lawful m) (sound : Sound m c) where
       stop? true g h = absurd cc
       stop? false g h =
           let b : first_by (precedes? m c) y ys ≡ x = cc in
-          subst (Round m c log) b (made _ is_first.0 is_first.1 g)
+          let first = first_left s y ys e in
+          subst (Round m c log) b (made _ first.0 first.1 g)
 
   pub next_round : {n : ℕ} {log : List Record} {x : Record} → Rounds m c n log → next m c log ≡ Some x → Round m c log x
   next_round s e = next_some s _ _ refl e
@@ -92,15 +94,16 @@ module _ {m : Meaning} {c : Content} (laws : Lawful m) (sound : Sound m c) where
       costs : (a : Record) → In a (y ∷ ys) → Cost m a.cost
       costs a j = kept_cost s a (subst (λ l. In a l) (sym e) j)
 
-      is_first : In (first_by (precedes? m c) y ys) (y ∷ ys) × ((z : Record) → In z (y ∷ ys) → Precedes m c (first_by (precedes? m c) y ys) z)
-      is_first = first_candidate laws c y ys costs
-
       within : (b : Record) → Cost m b.cost → Precedes m c b x → NoDearer m b.cost x.cost
       within b hb (inl h) = cheaper_no_dearer laws _ _ hb (costs x i) h
       within b hb (inr h) = no_dearer_eq laws _ _ hb h.0
 
       stop? : (t : Bool) → m.no_dearer m.worst (first_by (precedes? m c) y ys).cost ≡ t → cond t None (Some (first_by (precedes? m c) y ys)) ≡ None → NoDearer m m.worst x.cost
-      stop? true g h = let hb = costs (first_by (precedes? m c) y ys) is_first.0 in laws.trans _ _ _ laws.worst_cost hb (costs x i) g (within (first_by (precedes? m c) y ys) hb (is_first.1 x i))
+      stop? true g h =
+          let first = first_left s y ys e in
+          let b = first_by (precedes? m c) y ys in
+          let hb = costs b first.0 in
+          laws.trans _ _ _ laws.worst_cost hb (costs x i) g (within b hb (first.1 x i))
       stop? false g h = absurd cc
 
   pub next_done : {n : ℕ} {log : List Record} → Rounds m c n log → next m c log ≡ None → Settled m c log

@@ -24,6 +24,7 @@ use Rattle.board.specs.Settling.{Record, Derivation, by_step, by_call, bare, ste
 use Rattle.board.specs.Logged.{pair_of, derivation_of, record_of}
 use Rattle.board.specs.Logs.{records, numbered, nth_record, Ready}
 use Rattle.board.specs.Winning.{GoalOn, Makes, made, Wins, Finds, StepOf, StepsBy, Steps, Gathered, LineTo}
+use Rattle.board.proofs.Standing.{leaves_on}
 use Rattle.board.proofs.Membership.{some_eq, none_some}
 use Rattle.board.proofs.Transitions.{arrival_transition, transition_arrival}
 use Rattle.board.proofs.Diagonal.{place_eq}
@@ -188,9 +189,6 @@ module _ {m : Meaning} {c : Content} {l : Log} (laws : Lawful m) (ready : Ready 
       let x = step_front laws ready g on v y k d in
       other (ap (λ (z : Row). z.kind) (sym (row_of same x.goes)) ∙ quiet_plain _ _ x.goes.does)
 
-  pub row_place : (t : ℕ) → t < c.moments → On c (r.from, t)
-  row_place t h = ((ready.sound.sound_rows row r row_is).from_in, h)
-
   -- without an event
   module _ (no_event : r.label ≡ 0) where
     pub alone_starts : (p : Place) (k : ℕ) → Transition m c (bare row) p g.to k Quiet → p ≡ (r.from, moment g.to)
@@ -213,7 +211,7 @@ module _ {m : Meaning} {c : Content} {l : Log} (laws : Lawful m) (ready : Ready 
     -- along a line that was read
     module _ (i : ℕ) (w : Line) (line_is : slice_get c.lines (get_or lines i 0) ≡ Some w) where
       pub along_place : On c (r.from, w.from)
-      along_place = row_place w.from (ready.sound.sound_lines _ w line_is).from_in
+      along_place = leaves_on ready.sound row r row_is w.from (ready.sound.sound_lines _ w line_is).from_in
 
       pub along_starts : (p : Place) (k : ℕ) → Transition m c (record { row = row; line = Some (get_or lines i 0) }) p g.to k Quiet → p ≡ (r.from, w.from)
       along_starts p k t = place_eq p (r.from, w.from) (t.leaves ∙ ap (λ (z : Row). z.from) (row_of refl t)) (⊎_elim

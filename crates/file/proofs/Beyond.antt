@@ -18,6 +18,7 @@ use Rattle.file.proofs.Turns.{passes_note, passes_lines, passes_rows, takes_note
 use Rattle.file.proofs.Heads.{next_or_not}
 use Rattle.file.proofs.Limits.{row_taken, line_taken, went_on, was_called}
 use Rattle.file.proofs.Words.{count_below}
+use Rattle.file.proofs.Tails.{rows_section, lines_section}
 
 -- both are refused, with one fault
 pub record Alike {X : Type 0} (a b : Result X LoadFault) : Type 0 where
@@ -232,12 +233,6 @@ module _ (m : Meaning) (trust : ℕ) where
   alike_by : {a a' b b' : Result Loaded LoadFault} → a ≡ a' → b ≡ b' → Alike a' b' → Alike a b
   alike_by e f h = record { why = h.why; first = e ∙ h.first; second = f ∙ h.second }
 
-  is_lines : (p : Piece) (x : Loaded) → head_code p.bytes ≡ lines_code → section_added m trust (next_section p) x ≡ go_on (records (line_record m trust) (head_count p.bytes) (take (8 * head_count p.bytes) (drop 2 p.bytes)) (p.place + 2) x.content) (with_content x)
-  is_lines p x h = rw h
-
-  is_rows : (p : Piece) (x : Loaded) → head_code p.bytes ≡ rows_code → section_added m trust (next_section p) x ≡ go_on (records (row_record m) (head_count p.bytes) (take (8 * head_count p.bytes) (drop 2 p.bytes)) (p.place + 2) x.content) (with_content x)
-  is_rows p x h = rw h
-
   other_on : (q : Piece) (ys : List ℕ) (code : ℕ) → 2 ≤ length q.bytes → (length q.bytes < 2) ⊎ (head_code q.bytes ≡ code → ⊥) → (length (q.bytes ++ ys) < 2) ⊎ (head_code (q.bytes ++ ys) ≡ code → ⊥)
   other_on q ys code long other = let c = code_on q.bytes ys long in ⊎_elim (λ h. absurd (omega arith)) (λ h. inr (λ e. h (sym c ∙ e))) other
 
@@ -247,7 +242,7 @@ module _ (m : Meaning) (trust : ℕ) where
       let long' : 2 ≤ length (q.bytes ++ ys) = omega (arith, length-append q.bytes ys) in
       elim (next_or_not 2 q.bytes) [
         | inl next ↦ alike_by (takes_lines m trust (longer q ys) (loaded_as c u) long' (code_on q.bytes ys next.0 ∙ next.1)) (takes_lines m trust q (loaded_as c v) next.0 next.1)
-            (section_on lines_code (line_record m trust) (λ (d : Content). length d.lines) (line_counts m trust) 4099 (from_note m trust) (λ p h. rw h) is_lines (λ p zs d w z h. note_on p zs (loaded_as d w) (loaded_as d z) h) q ys c u v long next.1)
+            (section_on lines_code (line_record m trust) (λ (d : Content). length d.lines) (line_counts m trust) 4099 (from_note m trust) (λ p h. rw h) (lines_section m trust) (λ p zs d w z h. note_on p zs (loaded_as d w) (loaded_as d z) h) q ys c u v long next.1)
         | inr other ↦ alike_by (passes_lines m trust (longer q ys) (loaded_as c u) (other_on q ys 2 (omega arith) other)) (passes_lines m trust q (loaded_as c v) other) (note_on q ys (loaded_as c u) (loaded_as c v) (omega arith))
       ]
 
@@ -257,7 +252,7 @@ module _ (m : Meaning) (trust : ℕ) where
       let long' : 2 ≤ length (q.bytes ++ ys) = omega (arith, length-append q.bytes ys) in
       elim (next_or_not 1 q.bytes) [
         | inl next ↦ alike_by (takes_rows m trust (longer q ys) (loaded_as c u) long' (code_on q.bytes ys next.0 ∙ next.1)) (takes_rows m trust q (loaded_as c v) next.0 next.1)
-            (section_on rows_code (row_record m) (λ (d : Content). length d.rows) (row_counts m trust) 5133 (from_lines m trust) (λ p h. rw h) is_rows lines_on q ys c u v long next.1)
+            (section_on rows_code (row_record m) (λ (d : Content). length d.rows) (row_counts m trust) 5133 (from_lines m trust) (λ p h. rw h) (rows_section m trust) lines_on q ys c u v long next.1)
         | inr other ↦ alike_by (passes_rows m trust (longer q ys) (loaded_as c u) (other_on q ys 1 (omega arith) other)) (passes_rows m trust q (loaded_as c v) other) (lines_on q ys c u v (omega arith))
       ]
 

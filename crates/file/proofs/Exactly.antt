@@ -14,13 +14,11 @@ use Rattle.file.specs.declared.refusal.FileRefusal.{FileRefusal}
 use Rattle.file.specs.declared.refusal.FileRefusal.TheVariants.{CutShort}
 use Rattle.file.specs.declared.refusal.LoadFault.{LoadFault}
 use Rattle.file.specs.Fields.{word4, header_read}
-use Rattle.file.specs.Parts.{Piece, fault_at}
+use Rattle.file.specs.Parts.{Piece}
 use Rattle.file.specs.Records.{go_on, at_place}
 use Rattle.file.specs.Load.{Opened, opened, Loaded, loaded_as, from_rows, sized, no_note, after_header, loaded, note_answer, content_left, load_answer, load_after}
 use Rattle.file.specs.Layout.{Description, in_bytes, header_word, sections_written, written, Byte, content_of, note_at_end, Described, LoadsExactly}
-use Rattle.board.proofs.Accepting.{cond_ok}
 use Rattle.file.proofs.Bytes.{word4_bytes, bytes_word4, word4_fits, each_byte, each_drop}
-use Rattle.file.proofs.Called.{err_not_ok, ok_same}
 use Rattle.file.proofs.Words.{header_word_fits, header_word_read, HeaderWas, header_read_word}
 use Rattle.file.proofs.Limits.{went_on, was_called}
 use Rattle.file.proofs.Tails.{put_rows, put_lines, put_note, Tail, rows_tail, rows_accepted}
@@ -58,8 +56,8 @@ record OpenedNew (m : Meaning) (bs : List ℕ) (o : Opened) : Type 0 where
 
 -- a part that was taken
 placed : {X : Type 0} (o : Result X FileRefusal) (place : ℕ) (x : X) → at_place o place ≡ Ok x → o ≡ Ok x
-placed (Ok y) place x h = ap Ok (ok_same h)
-placed (Err e) place x h = absurd (err_not_ok x (fault_at e place) (sym h))
+placed (Ok y) place x h = cc
+placed (Err e) place x h = absurd cc
 
 -- the content and the note of the sections are those of the description
 contents : (m : Meaning) (d : Description) (rows : Option (List Row)) (lines : Option (List Line)) → d.rows ≡ rows → d.lines ≡ lines → put_lines m d.trust d.lines (put_rows d.rows (with_size new d.modes d.moments)) ≡ content_of m d
@@ -102,19 +100,26 @@ module _ (m : Meaning) where
         notes = t.noted ∙ notes note (4 + length (drop 4 bs)) (length (written d)) bs (ends ∙ ap length (sym laid)) (ap length (sym laid));
       }
 
-  opened_was : (bs : List ℕ) (o : Opened) → opened m bs new ≡ Ok o → OpenedNew m bs o
-  opened_was bs o e =
-      let u = cond_ok (ltb (length bs) 4) CutShort _ o e in
-      let a = went_on (header_read m (word4 bs)) (λ (h : Header). go_on (sized h new) (λ (d : Content). Ok (record { content = d; trust = h.trust }))) o u.1 in
+  -- what the header gives, once it is read
+  abbrev after_read : Header → Result Opened FileRefusal
+  after_read h = go_on (sized h new) (λ (d : Content). Ok (record { content = d; trust = h.trust }))
+
+  opened_long : (bs : List ℕ) (o : Opened) (short : Bool) → ltb (length bs) 4 ≡ short → cond short (Err CutShort) (go_on (header_read m (word4 bs)) after_read) ≡ Ok o → OpenedNew m bs o
+  opened_long bs o true b e = absurd cc
+  opened_long bs o false b e =
+      let a = went_on (header_read m (word4 bs)) after_read o e in
       let d = went_on (sized a.value new) (λ (d : Content). Ok (record { content = d; trust = a.value.trust })) o a.then in
       let s = sized_was a.value d.value d.answered in
       record {
-        long = ltb-false (length bs) 4 u.0;
+        long = ltb-false (length bs) 4 b;
         header = a.value;
         read = a.answered;
         size = record { some_place = s.some_place; few_places = s.few_places; is = refl };
-        is = (λ i. record { content = s.is i; trust = a.value.trust }) ∙ ok_same d.then;
+        is = (λ i. record { content = s.is i; trust = a.value.trust }) ∙ cc;
       }
+
+  opened_was : (bs : List ℕ) (o : Opened) → opened m bs new ≡ Ok o → OpenedNew m bs o
+  opened_was bs o e = opened_long bs o (ltb (length bs) 4) refl e
 
   accepted_as : (bs : List ℕ) (y : Loaded) → AllByRecursion Byte bs → loaded m bs ≡ Ok y → Described m bs y.content y.note
   accepted_as bs y e h =
@@ -156,8 +161,8 @@ module _ (m : Meaning) where
 
   -- a load that answered a note and left a content
   answered_ok : (o : Result Loaded LoadFault) (c : Content) (n : Piece) → note_answer o ≡ Ok n → content_left o ≡ c → o ≡ Ok (loaded_as c n)
-  answered_ok (Ok y) c n h k = let e = ok_same h in ap Ok (λ i. loaded_as (k i) (e i))
-  answered_ok (Err f) c n h k = absurd (err_not_ok n f (sym h))
+  answered_ok (Ok y) c n h k = let e : y.note ≡ n = cc in ap Ok (λ i. loaded_as (k i) (e i))
+  answered_ok (Err f) c n h k = absurd cc
 
   pub loads_exactly : (bs : List ℕ) → ((i : ℕ) → get_or bs i 0 < 256) → LoadsExactly m bs (load_answer m bs) (load_after m bs)
   loads_exactly bs e c n = (

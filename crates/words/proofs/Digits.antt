@@ -3,6 +3,7 @@ use Rattle.std.proofs.Common.{◌≡◌, ℕ, ◌+◌, ◌-◌, ◌*◌, ◌^◌
 use Rattle.std.proofs.lemmas.Fmt.{decimal_nonempty, digits_decimal, digits_value-decimal}
 use Rattle.std.proofs.lemmas.Str.Parse.{IsNumeralModel, numerals_by_fold}
 use Rattle.std.proofs.lemmas.List.{drop_more}
+use Rattle.std.proofs.lemmas.Option.{cond_some}
 use Rattle.std.proofs.lemmas.Bool.{cond-true, cond-false, and_from, and_parts, and_cases, and_left, and_right, lt-ltb, le-leb, lt-leb, leb-true, leb-false}
 use Rattle.words.specs.Numbers.{is_digit, all_digits, read_on, is_number, number_of, after_digit, ReadsBack}
 
@@ -11,12 +12,8 @@ read_on_ge : (n : ℕ) (bs : List ℕ) → n ≤ read_on n bs
 read_on_ge n [] = omega arith
 read_on_ge n (b ∷ bs) = omega (arith, read_on_ge (10 * n + (b - 48)) bs)
 
-some_since : {X : Type 0} (t : Bool) (x y : X) → cond t (Some x) None ≡ Some y → (t ≡ true) × (x ≡ y)
-some_since true x y e = (refl, cc)
-some_since false x y e = let z : ◌≡◌ {A = ℕ} 0 1 = cc in absurd (omega arith)
-
 none_since : {X : Type 0} (t : Bool) (x : X) → cond t (Some x) None ≡ None → t ≡ false
-none_since true x e = let z : ◌≡◌ {A = ℕ} 0 1 = cc in absurd (omega arith)
+none_since true x e = absurd cc
 none_since false x e = refl
 
 -- what n and the digits after it write, up to the limit
@@ -64,7 +61,7 @@ reads_back limit fits n small =
 pub number_fits : (limit : ℕ) (w : List ℕ) (n : ℕ) → number_of limit w ≡ Some n → n ≤ limit
 unfolding number_of
 number_fits limit w n e =
-    let some = some_since (is_number limit w) (read_on 0 w) n e in
+    let some = cond_some (is_number limit w) (read_on 0 w) n e in
     let parts = and_parts _ (all_digits w && leb (read_on 0 w) limit) some.0 in
     let small = leb-true (read_on 0 w) limit (and_parts (all_digits w) _ parts.1).1 in
     omega (arith, some.1)

@@ -1,5 +1,5 @@
 -- Bytes split at a mark.
-use Rattle.std.proofs.Common.{◌≡◌, ℕ, ◌+◌, ◌<◌, eqb, List, [], ◌∷◌, ◌++◌, length, get_or, take, drop, Some, None, Option, sym, refl, ap, ◌∙◌, ⊎_elim, arith, Bor, MatchOption}
+use Rattle.std.proofs.Common.{◌≡◌, ℕ, ◌+◌, ◌<◌, eqb, List, [], ◌∷◌, ◌++◌, length, get_or, take, drop, Some, None, Option, sym, refl, ap, ◌∙◌, ⊎_elim, Bor, MatchOption}
 use Rattle.std.specs.Option.{option_map}
 use Rattle.std.proofs.lemmas.List.{append_assoc, append-nil, drop_more, take_more}
 use Rattle.std.proofs.lemmas.Bool.{cond-true, cond-false, cases_Bool, eq-eqb, eqb-true}
@@ -12,11 +12,11 @@ after_self (m ∷ ms) back = cond-true _ _ _ (eq-eqb m m refl) ∙ after_self ms
 
 begins : (mark bs back : List ℕ) → after_mark mark bs ≡ Some back → bs ≡ mark ++ back
 begins [] bs back e = cc
-begins (m ∷ ms) [] back e = let z : ◌≡◌ {A = ℕ} 0 1 = cc in absurd (omega arith)
+begins (m ∷ ms) [] back e = absurd cc
 begins (m ∷ ms) (b ∷ bs) back e =
     ⊎_elim
     (λ t. let rest = begins ms bs back (sym (cond-true _ _ _ t) ∙ e) in let first = eqb-true m b t in cc)
-    (λ f. let none = sym (cond-false _ (after_mark ms bs) None f) ∙ e in let z : ◌≡◌ {A = ℕ} 0 1 = cc in absurd (omega arith))
+    (λ f. let none = sym (cond-false _ (after_mark ms bs) None f) ∙ e in absurd cc)
     (cases_Bool (eqb m b))
 
 none_unless : {X : Type 0} (o : Option X) → ((x : X) → o ≡ Some x → ⊥) → None ≡ o
@@ -62,7 +62,7 @@ module _ (mark bs : List ℕ) (i : ℕ) where
 
 -- the law
 rejoins_later : (mark : List ℕ) (b : ℕ) (bs : List ℕ) (later : Option (List ℕ × List ℕ)) → ((front back : List ℕ) → later ≡ Some (front, back) → bs ≡ front ++ (mark ++ back)) → (front back : List ℕ) → longer b later ≡ Some (front, back) → b ∷ bs ≡ front ++ (mark ++ back)
-rejoins_later mark b bs None rest front back e = let z : ◌≡◌ {A = ℕ} 0 1 = cc in absurd (omega arith)
+rejoins_later mark b bs None rest front back e = absurd cc
 rejoins_later mark b bs (Some p) rest front back e =
     let same : ◌≡◌ {A = List ℕ × List ℕ} (b ∷ p.0, p.1) (front, back) = cc in
     ap (λ l. b ∷ l) (rest p.0 p.1 refl) ∙ ap (λ (q : List ℕ × List ℕ). q.0 ++ (mark ++ q.1)) same
@@ -74,5 +74,5 @@ rejoins_here mark b bs (Some after) found later rest front back e =
     begins mark (b ∷ bs) after found ∙ ap (λ (q : List ℕ × List ℕ). q.0 ++ (mark ++ q.1)) same
 
 pub rejoins : Rejoins
-rejoins mark [] front back e = let z : ◌≡◌ {A = ℕ} 0 1 = cc in absurd (omega arith)
+rejoins mark [] front back e = absurd cc
 rejoins mark (b ∷ bs) front back e = rejoins_here mark b bs (after_mark mark (b ∷ bs)) refl (split_of mark bs) (rejoins mark bs) front back e

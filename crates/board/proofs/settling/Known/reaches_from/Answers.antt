@@ -3,37 +3,38 @@ use Rattle.board.specs.Held.{held}
 use Rattle.board.specs.Logs.{numbered}
 use Rattle.board.proofs.Knowing.{ready_of}
 use Rattle.board.proofs.Numbers.{pair_in}
-use Rattle.board.proofs.Calling.{open_place, entry_place, between_places, none_by_more, none_by_all, serves_no_row, serves_no_inside, serves_dear}
+use Rattle.board.proofs.Standing.{leaves_on, enters_on}
+use Rattle.board.proofs.Calling.{between_places, none_by_more, none_by_all, serves_no_row, serves_no_inside, serves_dear}
 use Rattle.board.proofs.settling.Known.reaches_from.Goals as goal
 use Rattle.board.proofs.settling.Known.reaches_from.Goals.{in-Some+in-Some-at+else-no_dearer, in-Some+in_default-at, in_default}
 
 pub offset_bounds-self-i : goal.offset_bounds-self-i
 offset_bounds-self-i g c =
     let a = c.args.self.now in
-    let h = (between_places (ready_of a) c.args.goal.from (c.args.a.from, c.args.moment) c.requires.on.0 (open_place g.met.K.Kind.lawful (ready_of c.args.self.now) c.args.goal c.requires.on c.args.o c.args.a c.requires.row c.requires.opens c.args.moment c.requires.moment) c.args.i c.requires.front).0 in
+    let h = (between_places (ready_of a) c.args.goal.from (c.args.a.from, c.args.moment) c.requires.on.0 (leaves_on c.args.self.now.tables.now.sound c.args.o c.args.a c.requires.row _ c.requires.moment) c.args.i c.requires.front).0 in
     omega (arith, h, a.book.room)
 
 pub bounds-self-i : goal.bounds-self-i
 bounds-self-i g c =
     let a = c.args.self.now in
-    let h = (between_places (ready_of a) c.args.goal.from (c.args.a.from, c.args.moment) c.requires.on.0 (open_place g.met.K.Kind.lawful (ready_of c.args.self.now) c.args.goal c.requires.on c.args.o c.args.a c.requires.row c.requires.opens c.args.moment c.requires.moment) c.args.i c.requires.front).0 in
+    let h = (between_places (ready_of a) c.args.goal.from (c.args.a.from, c.args.moment) c.requires.on.0 (leaves_on c.args.self.now.tables.now.sound c.args.o c.args.a c.requires.row _ c.requires.moment) c.args.i c.requires.front).0 in
     omega (arith, h, a.book.room)
 
 pub at-requires : goal.at-requires
 at-requires g c =
-    let h = pair_in (held c.args.self.now.tables.now) (c.args.a.to, c.args.moment) (c.in-Some.b.from, c.args.goal.to.1) c.args.self.now.tables.now.sound.few_places (entry_place g.met.K.Kind.lawful (ready_of c.args.self.now) c.args.goal c.requires.on c.args.o c.args.a c.requires.row c.requires.opens c.args.moment c.requires.moment) ((c.args.self.now.tables.now.sound.sound_rows _ c.in-Some.b (sym c.row.ensures ∙ c.in-Some.is)).from_in, c.requires.on.1.1) in
+    let h = pair_in (held c.args.self.now.tables.now) (c.args.a.to, c.args.moment) (c.in-Some.b.from, c.args.goal.to.1) c.args.self.now.tables.now.sound.few_places (enters_on c.args.self.now.tables.now.sound c.args.o c.args.a c.requires.row _ c.requires.moment) (leaves_on c.args.self.now.tables.now.sound _ c.in-Some.b (sym c.row.ensures ∙ c.in-Some.is) _ c.requires.on.1.1) in
     omega (arith, h, c.pair-inside.ensures)
 
 pub offset_bounds-self-j : goal.offset_bounds-self-j
 offset_bounds-self-j g c =
     let a = c.args.self.now in
-    let h = (between_places (ready_of a) (c.args.a.to, c.args.moment) (c.in-Some.b.from, c.args.goal.to.1) (entry_place g.met.K.Kind.lawful (ready_of c.args.self.now) c.args.goal c.requires.on c.args.o c.args.a c.requires.row c.requires.opens c.args.moment c.requires.moment) ((c.args.self.now.tables.now.sound.sound_rows _ c.in-Some.b (sym c.row.ensures ∙ c.in-Some.is)).from_in, c.requires.on.1.1) c.in-Some-at.j (sym (c.at.ensures ∙ ap (λ (p : ℕ). get_or c.args.self.now.log.now.index p None) c.pair-inside.ensures) ∙ c.in-Some-at.is)).0 in
+    let h = (between_places (ready_of a) (c.args.a.to, c.args.moment) (c.in-Some.b.from, c.args.goal.to.1) (enters_on c.args.self.now.tables.now.sound c.args.o c.args.a c.requires.row _ c.requires.moment) (leaves_on c.args.self.now.tables.now.sound _ c.in-Some.b (sym c.row.ensures ∙ c.in-Some.is) _ c.requires.on.1.1) c.in-Some-at.j (sym (c.at.ensures ∙ ap (λ (p : ℕ). get_or c.args.self.now.log.now.index p None) c.pair-inside.ensures) ∙ c.in-Some-at.is)).0 in
     omega (arith, h, a.book.room)
 
 pub bounds-self-j : goal.bounds-self-j
 bounds-self-j g c =
     let a = c.args.self.now in
-    let h = (between_places (ready_of a) (c.args.a.to, c.args.moment) (c.in-Some.b.from, c.args.goal.to.1) (entry_place g.met.K.Kind.lawful (ready_of c.args.self.now) c.args.goal c.requires.on c.args.o c.args.a c.requires.row c.requires.opens c.args.moment c.requires.moment) ((c.args.self.now.tables.now.sound.sound_rows _ c.in-Some.b (sym c.row.ensures ∙ c.in-Some.is)).from_in, c.requires.on.1.1) c.in-Some-at.j (sym (c.at.ensures ∙ ap (λ (p : ℕ). get_or c.args.self.now.log.now.index p None) c.pair-inside.ensures) ∙ c.in-Some-at.is)).0 in
+    let h = (between_places (ready_of a) (c.args.a.to, c.args.moment) (c.in-Some.b.from, c.args.goal.to.1) (enters_on c.args.self.now.tables.now.sound c.args.o c.args.a c.requires.row _ c.requires.moment) (leaves_on c.args.self.now.tables.now.sound _ c.in-Some.b (sym c.row.ensures ∙ c.in-Some.is) _ c.requires.on.1.1) c.in-Some-at.j (sym (c.at.ensures ∙ ap (λ (p : ℕ). get_or c.args.self.now.log.now.index p None) c.pair-inside.ensures) ∙ c.in-Some-at.is)).0 in
     omega (arith, h, a.book.room)
 
 pub loop-n-preserved : goal.loop-n-preserved
