@@ -1,4 +1,4 @@
--- What is known as candidates are offered.
+-- A sound content and its book, of what is known.
 use Rattle.costs.specs.declared.kind.Kind.{Ghosts}
 use Rattle.board.specs.declared.settling.Known.{Known}
 use Rattle.board.specs.Held.{held}

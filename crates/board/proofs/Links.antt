@@ -6,7 +6,7 @@ use Rattle.costs.specs.Meaning.{Meaning, Lawful, Cost, NoDearer}
 use Rattle.board.specs.declared.row.Row.{Row}
 use Rattle.board.specs.declared.moves.Effect.TheVariants.{Quiet, Opens, Closes}
 use Rattle.board.specs.declared.log.Log.{Log}
-use Rattle.board.specs.declared.log.Way.{Way}
+use Rattle.board.specs.declared.settling.Way.{Way}
 use Rattle.board.specs.declared.settling.Waiting.{Waiting}
 use Rattle.board.specs.Content.{Content}
 use Rattle.board.specs.Moves.{Place, mode, moment, place_number, effect, Transition}
@@ -14,7 +14,7 @@ use Rattle.board.specs.Settling.{Record, bare, step_record, call_record, step, c
 use Rattle.board.specs.Logged.{pair_of}
 use Rattle.board.specs.Logs.{records, numbered, nth_record, Ready}
 use Rattle.board.specs.Lowering.{Attained, lowered, Lowered, Among, Just}
-use Rattle.board.specs.Minima.{Link, CandidateAt, FollowedBy, FollowedFrom, Linked, RowsLeast, BracketedBy, BracketedIf, BracketedOn, BracketedIn}
+use Rattle.board.specs.Minima.{Link, CandidateAt, FollowedBy, FollowedFrom, Linked, PlacesLeast, BracketedBy, BracketedIf, BracketedOn, BracketedIn}
 use Rattle.board.specs.Winning.{is_close, closes_from}
 use Rattle.board.proofs.Membership.{some_eq, none_some}
 use Rattle.board.proofs.Standing.{enters_on, transition_from, transition_to}
@@ -140,23 +140,20 @@ module _ {m : Meaning} {c : Content} {l : Log} (laws : Lawful m) (ready : Ready 
     -- a link that got cheaper, and what follows it
     module _ {links : List ℕ} {waiting : Waiting} (ok : Linked m c l links waiting) where
       link_slot : r * 64 + q < length links
-      link_slot = omega (arith, ok.links_long)
+      link_slot = omega (arith, ok.held_links.long)
 
       pub link_lower : (ys : List ℕ) → ys ≡ lowered m links (r * 64 + q) cost → Lowered m (Link m c l) links ys (Just (r * 64 + q) cost)
-      link_lower ys e = lowered_one laws link_cost links ys (r * 64 + q) cost ok.links_attained link_slot link e
+      link_lower ys e = lowered_one laws link_cost links ys (r * 64 + q) cost ok.held_links.attained link_slot link e
 
       -- it did not
       pub link_kept : (ys : List ℕ) → ys ≡ lowered m links (r * 64 + q) cost → m.no_dearer (get_or links (r * 64 + q) 0) cost ≡ true → Linked m c l ys waiting
       link_kept ys e h = subst (λ (zs : List ℕ). Linked m c l zs waiting) (sym (e ∙ cond-true _ _ _ h)) ok
 
       -- it did
-      pub link_followed : (ys : List ℕ) (waits : Waiting) → ys ≡ lowered m links (r * 64 + q) cost → m.no_dearer (get_or links (r * 64 + q) 0) cost ≡ false → Lowered m (CandidateAt m c l) waiting.costs waits.costs (Among (FollowedFrom m l r q cost) 64) → RowsLeast m l waits → Linked m c l ys waits
-      link_followed ys waits e h w rows = record {
-        least = rows;
-        links_long = (link_lower ys e).long ∙ ok.links_long;
-        links_attained = (link_lower ys e).attained;
-        waiting_long = w.long ∙ ok.waiting_long;
-        waiting_attained = w.attained;
+      pub link_followed : (ys : List ℕ) (waits : Waiting) → ys ≡ lowered m links (r * 64 + q) cost → m.no_dearer (get_or links (r * 64 + q) 0) cost ≡ false → Lowered m (CandidateAt m c l) waiting.costs waits.costs (Among (FollowedFrom m l r q cost) 64) → PlacesLeast m l waits → Linked m c l ys waits
+      link_followed ys waits e h w places = record {
+        held_links = record { long = (link_lower ys e).long ∙ ok.held_links.long; attained = (link_lower ys e).attained };
+        held_waiting = record { long = w.long ∙ ok.held_waiting.long; attained = w.attained; least = places };
         followed = λ i hi p k x. kept i hi p k x;
       }
         where
@@ -175,9 +172,9 @@ module _ {m : Meaning} {c : Content} {l : Log} (laws : Lawful m) (ready : Ready 
               (λ (n : place_number c (numbered l i).to * 64 + u ≡ r * 64 + q → ⊥).
               let price : get_or ys (place_number c (numbered l i).to * 64 + u) 0 ≡ get_or links (place_number c (numbered l i).to * 64 + u) 0 = ap (λ (zs : List ℕ). get_or zs (place_number c (numbered l i).to * 64 + u) 0) ys_is ∙ get_or-set_other links (r * 64 + q) _ cost 0 n in
               let old = ok.followed i hi p k (u, hu, (at, is ∙ ap (m.join (numbered l i).cost) price)) in
-              let fits = follow_fits links ok.links_long ok.links_attained i hi waiting.costs ok.waiting_long 64 p k (omega arith) (u, hu, (at, is ∙ ap (m.join (numbered l i).cost) price)) in
+              let fits = follow_fits links ok.held_links.long ok.held_links.attained i hi waiting.costs ok.held_waiting.long 64 p k (omega arith) (u, hu, (at, is ∙ ap (m.join (numbered l i).cost) price)) in
               let fits0 = fits.0 in
-              laws.trans _ _ _ (attained_cost laws candidate_cost_at waits.costs w.attained p (omega (arith, w.long))) (attained_cost laws candidate_cost_at waiting.costs ok.waiting_attained p fits.0) fits.1 (w.lower p fits.0) old)
+              laws.trans _ _ _ (attained_cost laws candidate_cost_at waits.costs w.attained p (omega (arith, w.long))) (attained_cost laws candidate_cost_at waiting.costs ok.held_waiting.attained p fits.0) fits.1 (w.lower p fits.0) old)
               (cases_eq (place_number c (numbered l i).to * 64 + u) (r * 64 + q))
 
 -- an entry between an open and a close row

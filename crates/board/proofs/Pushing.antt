@@ -94,13 +94,15 @@ module _ {m : Meaning} {c : Content} {l : Log} (ready : Ready m c l) {p : ℕ} {
           (λ (ne : q ≡ p → ⊥). let f = ready.book.finds q i (sym (get_or-set_other l.index p q (Some l.count) None ne) ∙ e) in let f0 = f.0 in (omega arith, ap pair_at (numbered_old i f.0) ∙ f.1))
           (cases_eq q p);
       full = filled_set l.index p l.count pair_here fresh ∙ ap (λ (n : ℕ). n + 1) ready.book.full;
-      room = let h = room_here in omega arith;
       lengths_long = length-set l.lengths l.count n ∙ ready.book.lengths_long;
-      earlier = by_number (λ i x. Refers i x.source) refers ready.book.earlier;
-      lengths_are = λ i h. ⊎_elim
-          (λ (e : i ≡ l.count). subst (λ (j : ℕ). get_or (set l.lengths l.count n) j 0 ≡ min (length (nth_record (pushed l p r n) j).moves) 65536) (sym e) (get_or-set_same l.lengths l.count n 0 lengths_here ∙ (n-is ∙ ap (λ (x : Record). min (length x.moves) 65536) (sym place_new))))
-          (λ (ne : i ≡ l.count → ⊥). let k : i < l.count = omega arith in get_or-set_other l.lengths l.count i n 0 ne ∙ (ready.book.lengths_are i k ∙ ap (λ (x : Record). min (length x.moves) 65536) (sym (place_old i k))))
-          (cases_eq i l.count);
+      spells = record {
+        room = let h = room_here in omega arith;
+        earlier = by_number (λ i x. Refers i x.source) refers ready.book.spells.earlier;
+        lengths_are = λ i h. ⊎_elim
+            (λ (e : i ≡ l.count). subst (λ (j : ℕ). get_or (set l.lengths l.count n) j 0 ≡ min (length (nth_record (pushed l p r n) j).moves) 65536) (sym e) (get_or-set_same l.lengths l.count n 0 lengths_here ∙ (n-is ∙ ap (λ (x : Record). min (length x.moves) 65536) (sym place_new))))
+            (λ (ne : i ≡ l.count → ⊥). let k : i < l.count = omega arith in get_or-set_other l.lengths l.count i n 0 ne ∙ (ready.book.spells.lengths_are i k ∙ ap (λ (x : Record). min (length x.moves) 65536) (sym (place_old i k))))
+            (cases_eq i l.count);
+      };
     };
   }
 

@@ -48,7 +48,7 @@ module _ (m : Meaning) (c : Content) (l : Log) (g : Goal) where
 
 module _ {m : Meaning} {c : Content} {l : Log} {s : Minima} (laws : Lawful m) (state : State m c l s) where
   pub waiting_costs : (p : ℕ) → p < 4096 → Cost m (get_or s.waiting.costs p 0)
-  waiting_costs p h = attained_cost laws (candidate_cost_at laws state.ready) s.waiting.costs state.linked.waiting_attained p (omega (arith, state.linked.waiting_long))
+  waiting_costs p h = attained_cost laws (candidate_cost_at laws state.ready) s.waiting.costs state.linked.held_waiting.attained p (omega (arith, state.linked.held_waiting.long))
 
   -- an entry with a link behind it costs no less than what waits
   link_covered : (i q k : ℕ) → i < l.count → q < 64 → Link m c l (place_number c (numbered l i).to * 64 + q) k → NoDearer m (get_or s.waiting.costs (place_number c (numbered l i).from * 64 + q) 0) (m.join (numbered l i).cost k)
@@ -56,7 +56,7 @@ module _ {m : Meaning} {c : Content} {l : Log} {s : Minima} (laws : Lawful m) (s
       let a = small_number state.ready.sound _ (state.ready.book.kept i h).from_on in
       let b = small_number state.ready.sound _ (state.ready.book.kept i h).to_on in
       let ha = entry_cost laws state.ready i h in
-      let hl = attained_cost laws (link_cost laws state.ready) s.links state.linked.links_attained (place_number c (numbered l i).to * 64 + q) (omega (arith, state.linked.links_long)) in
+      let hl = attained_cost laws (link_cost laws state.ready) s.links state.linked.held_links.attained (place_number c (numbered l i).to * 64 + q) (omega (arith, state.linked.held_links.long)) in
       let hk = link_cost laws state.ready _ k x in
       laws.trans _ _ _ (waiting_costs _ (omega arith)) (laws.join_cost _ _ ha hl) (laws.join_cost _ _ ha hk) (state.linked.followed i h _ _ (q, hq, (refl, refl))) (laws.mono_right _ _ _ hl hk ha (state.links_bounds _ k x))
 
@@ -123,7 +123,7 @@ module _ {m : Meaning} {c : Content} {l : Log} {s : Minima} (laws : Lawful m) (s
   -- the pair that was found
   module _ (p : ℕ) (k : LeastPair m l s.waiting.costs 4096 p) (g : Goal) (from_is : place_number c g.from ≡ p / 64) (to_is : place_number c g.to ≡ p % 64) (from_in : moment g.from < c.moments) (to_in : moment g.to < c.moments) (cost_is : g.cost ≡ get_or s.waiting.costs p 0) where
     found : CandidateAt m c l p (get_or s.waiting.costs p 0)
-    found = ⊎_elim (λ e. absurd (both_ways _ k.below (subst (λ (n : ℕ). NoDearer m m.worst n) (sym e) (no_dearer_same laws _ laws.worst_cost)))) (λ x. x) (state.linked.waiting_attained p (let h = k.within in omega (arith, state.linked.waiting_long)))
+    found = ⊎_elim (λ e. absurd (both_ways _ k.below (subst (λ (n : ℕ). NoDearer m m.worst n) (sym e) (no_dearer_same laws _ laws.worst_cost)))) (λ x. x) (state.linked.held_waiting.attained p (let h = k.within in omega (arith, state.linked.held_waiting.long)))
 
     found_from : g.from ≡ found.it.from
     found_from =

@@ -38,10 +38,8 @@ empty_book m c = record {
   found = λ i h. absurd (omega arith);
   finds = λ p i e. absurd (none_some _ _ (none_at ℕ 4096 p) e);
   full = filled_none 4096;
-  room = omega arith;
   lengths_long = length-replicate {A = ℕ} 4096 0;
-  earlier = λ i h. absurd (omega arith);
-  lengths_are = λ i h. absurd (omega arith);
+  spells = record { room = omega arith; earlier = λ i h. absurd (omega arith); lengths_are = λ i h. absurd (omega arith) };
 }
 
 -- a place of the diagonal that has not come yet

@@ -14,7 +14,7 @@ use Rattle.board.specs.Settling.{Record, Candidate}
 use Rattle.board.specs.Logged.{Refers, pair_of, spelled, record_of}
 use Rattle.board.specs.Logs.{records, numbered, Kept, Ready, pushed, empty}
 use Rattle.board.specs.Lowering.{Costing, Attained, Bounds, Lowered}
-use Rattle.board.specs.Minima.{Plain, Bracketed, BracketedBy, BracketedIn, Link, CandidateAt, Followed, Linked, RowLeast, RowsLeast, Led, State}
+use Rattle.board.specs.Minima.{Plain, Bracketed, BracketedBy, BracketedIn, Link, CandidateAt, Followed, Linked, PlaceLeast, PlacesLeast, Led, State}
 use Rattle.board.proofs.Laws.{no_dearer_eq, join_no_dearer}
 use Rattle.board.proofs.Decomposing.{transition_cost}
 use Rattle.board.proofs.Numbers.{number_in}
@@ -72,28 +72,25 @@ module _ {m : Meaning} {c : Content} {l l' : Log} {r : Entry} (laws : Lawful m) 
 
   module _ {s : Minima} (state : State m c l s) where
     -- after the new entry is followed
-    pub linked_stays : (waits : Waiting) → Lowered m (CandidateAt m c l') s.waiting.costs waits.costs (Followed m c s.links (numbered l' l.count)) → RowsLeast m l' waits → Linked m c l' s.links waits
-    linked_stays waits w rows = record {
-      least = rows;
-      links_long = state.linked.links_long;
-      links_attained = links_stay s.links state.linked.links_attained;
-      waiting_long = w.long ∙ state.linked.waiting_long;
-      waiting_attained = w.attained;
+    pub linked_stays : (waits : Waiting) → Lowered m (CandidateAt m c l') s.waiting.costs waits.costs (Followed m c s.links (numbered l' l.count)) → PlacesLeast m l' waits → Linked m c l' s.links waits
+    linked_stays waits w places = record {
+      held_links = record { long = state.linked.held_links.long; attained = links_stay s.links state.linked.held_links.attained };
+      held_waiting = record { long = w.long ∙ state.linked.held_waiting.long; attained = w.attained; least = places };
       followed = by_entry (λ (a : Entry). Bounds m (Followed m c s.links a) waits.costs) w.bounds (λ i h p k z.
-          let fits = follow_fits laws state.ready s.links state.linked.links_long state.linked.links_attained i h s.waiting.costs state.linked.waiting_long 64 p k (omega arith) z in
+          let fits = follow_fits laws state.ready s.links state.linked.held_links.long state.linked.held_links.attained i h s.waiting.costs state.linked.held_waiting.long 64 p k (omega arith) z in
           let fits0 = fits.0 in
-          laws.trans _ _ _ (attained_cost laws (candidate_cost_at laws x.ready) waits.costs w.attained p (omega (arith, w.long))) (attained_cost laws (candidate_cost_at laws state.ready) s.waiting.costs state.linked.waiting_attained p fits.0) fits.1 (w.lower p fits.0) (state.linked.followed i h p k z));
+          laws.trans _ _ _ (attained_cost laws (candidate_cost_at laws x.ready) waits.costs w.attained p (omega (arith, w.long))) (attained_cost laws (candidate_cost_at laws state.ready) s.waiting.costs state.linked.held_waiting.attained p fits.0) fits.1 (w.lower p fits.0) (state.linked.followed i h p k z));
     }
 
-    -- the rows of other places than that of the new entry
-    pub rows_stay : (p : ℕ) → p ≡ pair_of c r.from r.to → (t : ℕ) → t < 64 → t ≢ place_number c r.from → l'.index ≡ set l.index p (Some l.count) → RowLeast m l' s.waiting.costs t 64 (get_or s.waiting.least t 0)
-    rows_stay p at t ht far is =
+    -- the least from other places than that of the new entry
+    pub places_stay : (p : ℕ) → p ≡ pair_of c r.from r.to → (t : ℕ) → t < 64 → t ≢ place_number c r.from → l'.index ≡ set l.index p (Some l.count) → PlaceLeast m l' s.waiting.costs t 64 (get_or s.waiting.least t 0)
+    places_stay p at t ht far is =
         let q-small = number_in c r.to state.ready.sound.few_places (subst (λ (e : Entry). On c e.to) x.new (x.ready.book.kept l.count new_in).to_on) in
-        let row = state.linked.least.rows t ht in
+        let old = state.linked.held_waiting.least.places t ht in
         let same : (q : ℕ) → q < 64 → get_or l'.index (t * 64 + q) None ≡ get_or l.index (t * 64 + q) None = λ q hq. ap (λ (xs : List (Option ℕ)). get_or xs (t * 64 + q) None) is ∙ get_or-set_other l.index p (t * 64 + q) (Some l.count) None (λ (e : t * 64 + q ≡ p). omega arith) in
         record {
-          attained = ⊎_elim (λ z. inl z) (λ z. inr (z.0, z.1, same z.0 z.1 ∙ z.2, z.3)) row.attained;
-          bounds = λ q h e. row.bounds q h (sym (same q h) ∙ e);
+          attained = ⊎_elim (λ z. inl z) (λ z. inr (z.0, z.1, same z.0 z.1 ∙ z.2, z.3)) old.attained;
+          bounds = λ q h e. old.bounds q h (sym (same q h) ∙ e);
         }
 
     module _ (links : List ℕ) (linked : Lowered m (Link m c l') s.links links (BracketedIn m c s.leads (numbered l' l.count))) where
@@ -120,7 +117,7 @@ module _ {m : Meaning} {c : Content} {l l' : Log} {r : Entry} (laws : Lawful m) 
             ),
           ) in
           let small = link_in laws x.ready p k (inr (l.count, new_in, o, w, z)) in
-          let links-cost = attained_cost laws (link_cost laws x.ready) links linked.attained p (omega (arith, small, linked.long, state.linked.links_long)) in
+          let links-cost = attained_cost laws (link_cost laws x.ready) links linked.attained p (omega (arith, small, linked.long, state.linked.held_links.long)) in
           let inner = laws.mono_right _ _ _ hw hl hb (stands_cheap z.closes sw.2) in
           subst (NoDearer m (get_or links p 0)) (sym z.cost_is) (laws.trans _ _ _ links-cost (laws.join_cost _ _ ho (laws.join_cost _ _ hb hw)) (laws.join_cost _ _ hk (laws.join_cost _ _ hb hl)) by (join_no_dearer laws _ _ _ _ ho hk (laws.join_cost _ _ hb hw) (laws.join_cost _ _ hb hl) (stands_cheap z.opens so.2) inner))
 
@@ -128,7 +125,7 @@ module _ {m : Meaning} {c : Content} {l l' : Log} {r : Entry} (laws : Lawful m) 
       as_before : (p k : ℕ) → Link m c l p k → NoDearer m (get_or links p 0) k
       as_before p k z =
           let h = link_in laws state.ready p k z in
-          laws.trans _ _ _ (attained_cost laws (link_cost laws x.ready) links linked.attained p (omega (arith, linked.long, state.linked.links_long))) (attained_cost laws (link_cost laws state.ready) s.links state.linked.links_attained p (omega (arith, state.linked.links_long))) (link_cost laws state.ready p k z) (linked.lower p (omega (arith, state.linked.links_long))) (state.links_bounds p k z)
+          laws.trans _ _ _ (attained_cost laws (link_cost laws x.ready) links linked.attained p (omega (arith, linked.long, state.linked.held_links.long))) (attained_cost laws (link_cost laws state.ready) s.links state.linked.held_links.attained p (omega (arith, state.linked.held_links.long))) (link_cost laws state.ready p k z) (linked.lower p (omega (arith, state.linked.held_links.long))) (state.links_bounds p k z)
 
       -- all links of the new log are bounded
       links_all : Bounds m (Link m c l') links
@@ -153,18 +150,19 @@ module _ {m : Meaning} {c : Content} (laws : Lawful m) (sound : Sound m c) where
   empty_state l b d links leads e hb hd attained bounds long led leads-long = subst (λ (x : Log). State m c x (record { links = links; waiting = record { costs = replicate 4096 b; least = replicate 64 d }; leads = leads })) (sym e) (record {
     ready = record { sound = sound; book = empty_book m c };
     linked = record {
-      links_long = long;
-      links_attained = λ p h. ⊎_elim (λ z. inl z) (λ z. inr (inl z)) (attained p h);
-      waiting_long = length-replicate 4096 b;
-      waiting_attained = worst_attained m (CandidateAt m c empty) 4096 b hb;
-      followed = λ i h. absurd (omega arith);
-      least = record {
-        long = length-replicate 64 d;
-        rows = λ t ht. record {
-          attained = inl (get_or-replicate 64 t d 0 ht ∙ hd);
-          bounds = λ q hq e. no_dearer_eq laws _ _ (subst (Cost m) (sym (get_or-replicate 64 t d 0 ht ∙ hd)) laws.worst_cost) (get_or-replicate 64 t d 0 ht ∙ hd ∙ sym hb ∙ sym (get_or-replicate 4096 (t * 64 + q) b 0 (omega arith)));
+      held_links = record { long = long; attained = λ p h. ⊎_elim (λ z. inl z) (λ z. inr (inl z)) (attained p h) };
+      held_waiting = record {
+        long = length-replicate 4096 b;
+        attained = worst_attained m (CandidateAt m c empty) 4096 b hb;
+        least = record {
+          long = length-replicate 64 d;
+          places = λ t ht. record {
+            attained = inl (get_or-replicate 64 t d 0 ht ∙ hd);
+            bounds = λ q hq e. no_dearer_eq laws _ _ (subst (Cost m) (sym (get_or-replicate 64 t d 0 ht ∙ hd)) laws.worst_cost) (get_or-replicate 64 t d 0 ht ∙ hd ∙ sym hb ∙ sym (get_or-replicate 4096 (t * 64 + q) b 0 (omega arith)));
+          };
         };
       };
+      followed = λ i h. absurd (omega arith);
     };
     links_bounds = λ p k z. ⊎_elim (λ y. bounds p k y) (λ y. absurd (no_bracketed p k y)) z;
     leads_long = leads-long;

@@ -8,7 +8,8 @@ use Rattle.board.specs.declared.moves.Move.{Move}
 use Rattle.board.specs.Settling.{Record, bare}
 use Rattle.board.specs.Logged.{Refers, spelled, logged}
 use Rattle.board.specs.Logs.{numbered}
-use Rattle.board.specs.Spelled.{Spells, moves_at}
+use Rattle.board.specs.Logs.{Spells}
+use Rattle.board.specs.Spelled.{moves_at}
 use Rattle.std.specs.List.{flat_map}
 use Rattle.std.proofs.lemmas.Grind.{flat_map-append}
 use Rattle.board.specs.Cursors.{opened}

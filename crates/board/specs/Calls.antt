@@ -9,7 +9,7 @@ use Rattle.board.specs.Refusals.{first, unless}
 use Rattle.board.specs.Rows.{formed}
 use Rattle.board.specs.Content.{Content, new, Sound}
 
--- Size: sets M and T.
+-- Why size is declined: a row or a line is held (1); M times T is 0 or above 64 (2).
 abbrev pub size_fault : Content → ℕ → ℕ → Option Refusal
 size_fault c modes moments =
     first
@@ -25,7 +25,7 @@ with_size c modes moments = record { modes = modes; moments = moments; rows = c.
 abbrev pub size_after : Content → ℕ → ℕ → Content
 size_after c modes moments = unless (size_fault c modes moments) (with_size c modes moments) c
 
--- Add row: puts the row last.
+-- Why a row is declined: 128 are held (3); a mode is not below M (4); the row is not formed (5); its cost is none (10).
 abbrev pub row_fault : Meaning → Content → Row → Option Refusal
 row_fault m c r =
     first
@@ -43,7 +43,7 @@ with_row c r = record { modes = c.modes; moments = c.moments; rows = c.rows ++ (
 abbrev pub row_after : Meaning → Content → Row → Content
 row_after m c r = unless (row_fault m c r) (with_row c r) c
 
--- Add line: puts the line last. A line's own faults are apart from the count.
+-- A line's own faults: a moment is not below T (7); its event is 0 (8); its cost is none (10).
 abbrev pub line_faults : Meaning → ℕ → Line → List (Bool × Refusal)
 line_faults m moments l =
     ((nat_le moments l.from || nat_le moments l.to), MomentOut)
@@ -51,7 +51,7 @@ line_faults m moments l =
     ∷ (not (m.is_cost l.cost), NoCost)
     ∷ []
 
--- the first that applies, the count before the line's own
+-- Why a line is declined: 128 are held (6), or the first of its own faults.
 abbrev pub line_fault : Meaning → Content → Line → Option Refusal
 line_fault m c l = first ((nat_le 128 (length c.lines), LinesFull) ∷ line_faults m c.moments l)
 
@@ -63,7 +63,7 @@ with_line c l = record { modes = c.modes; moments = c.moments; rows = c.rows; li
 abbrev pub line_after : Meaning → Content → Line → Content
 line_after m c l = unless (line_fault m c l) (with_line c l) c
 
--- Reprice: sets the cost of row or line i, and of no other.
+-- Why repricing row or line i is declined: there is none (9); the cost is none (10).
 abbrev pub reprice_fault : {A : Type 0} → Meaning → List A → ℕ → ℕ → Option Refusal
 reprice_fault m xs i cost = first ((nat_le (length xs) i, NoSuch) ∷ (not (m.is_cost cost), NoCost) ∷ [])
 
@@ -101,7 +101,7 @@ reprice_line_after m c i cost = unless (reprice_fault m c.lines i cost) (with_li
 abbrev pub without_lines : Content → Content
 without_lines c = record { modes = c.modes; moments = c.moments; rows = c.rows; lines = [] }
 
--- Every call keeps a sound content sound, and a new board's is.
+-- Every call but load, which makes these calls, keeps a sound content sound, and a new board's is.
 pub record CallsKeep (m : Meaning) : Type 0 where
   pub begun : Sound m new
   pub sized : (c : Content) (modes moments : ℕ) → Sound m c → Sound m (size_after c modes moments)

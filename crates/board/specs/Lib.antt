@@ -17,7 +17,8 @@ pub mod Held
 pub mod Logged
 pub mod Boards
 pub mod Examples
--- What only inner functions and proofs name, but for `records` of Logs, by which Boards says what a settled board holds.
+-- What only inner functions and proofs name; but `records` of Logs, by which Boards says what a settled board holds, and
+-- `Book` of Logs, which a settled board's type carries.
 pub mod Checkers
 pub mod Lowering
 pub mod Minima

@@ -1,16 +1,14 @@
--- A log's array of entries and its index.
+-- The log: its entries, its index and its lengths, and what a round makes of it.
 use Rattle.std.specs.Prelude.{◌≡◌, ℕ, suc, ◌+◌, ◌<◌, ◌≤◌, min, Bool, true, false, List, [], ◌∷◌, length, replicate, Some, None, Option, slice_index, slice_index_or, slice_set}
 use Rattle.std.proofs.Props.{props}
 use Rattle.board.specs.declared.log.Source.{Source}
 use Rattle.board.specs.declared.log.Source.TheVariants.{Start, Step, Call}
 use Rattle.costs.specs.Meaning.{Meaning, Cost}
-use Rattle.board.specs.Settling.{Round, Rounds, Settled, Record, bare}
-use Rattle.board.specs.declared.moves.Effect.TheVariants.{Opens}
+use Rattle.board.specs.Settling.{Round, Rounds, Settled, Record}
 use Rattle.board.specs.Content.{Content, Sound}
-use Rattle.board.specs.Moves.{On, Transition, Place}
+use Rattle.board.specs.Moves.{On}
 use Rattle.board.specs.declared.log.Entry.{Entry}
 use Rattle.board.specs.declared.log.Log.{Log}
-use Rattle.board.specs.declared.log.Way.{Way}
 use Rattle.board.specs.Logged.{Refers, pair_of, logged, record_at, blank}
 
 -- the records of a log, the newest first
@@ -20,6 +18,10 @@ records l = logged l.entries l.count
 -- the entry number i
 abbrev pub numbered : Log → ℕ → Entry
 numbered l i = slice_index_or l.entries i blank
+
+-- the record of entry i
+abbrev pub nth_record : Log → ℕ → Record
+nth_record l i = record_at l.entries i
 
 -- how many pairs have a number
 abbrev pub filled : List (Option ℕ) → ℕ
@@ -33,8 +35,14 @@ pub record Kept (m : Meaning) (c : Content) (r : Entry) : Type 0 where
   pub from_on : On c r.from
   pub to_on : On c r.to
 
--- Each entry is between places of the board at a cost of the kind, the index finds it and nothing else, it refers to
--- earlier ones, and its length is that of its moves, 65,536 where they are more.
+-- Each entry refers to earlier ones, and its length is that of its moves, 65,536 where they are more.
+pub record Spells (l : Log) : Type 0 where
+  pub room : l.count ≤ 4096
+  pub earlier : (i : ℕ) → i < l.count → Refers i (numbered l i).source
+  pub lengths_are : (i : ℕ) → i < l.count → slice_index l.lengths i ≡ min (length (nth_record l i).moves) 65536
+
+-- Each entry is between places of the board at a cost of the kind, the index finds it and nothing else, and it spells out
+-- its moves.
 pub record Book (m : Meaning) (c : Content) (l : Log) : Type 0 where
   pub long : length l.entries ≡ 4096
   pub index_long : length l.index ≡ 4096
@@ -42,10 +50,8 @@ pub record Book (m : Meaning) (c : Content) (l : Log) : Type 0 where
   pub found : (i : ℕ) → i < l.count → slice_index_or l.index (pair_of c (numbered l i).from (numbered l i).to) None ≡ Some i
   pub finds : (p i : ℕ) → slice_index_or l.index p None ≡ Some i → (i < l.count) × (pair_of c (numbered l i).from (numbered l i).to ≡ p)
   pub full : filled l.index ≡ l.count
-  pub room : l.count ≤ 4096
   pub lengths_long : length l.lengths ≡ 4096
-  pub earlier : (i : ℕ) → i < l.count → Refers i (numbered l i).source
-  pub lengths_are : (i : ℕ) → i < l.count → slice_index l.lengths i ≡ min (length (record_at l.entries i).moves) 65536
+  pub spells : Spells l
 
 -- there is one proof at most that a source refers to earlier entries
 pub Refers-prop : (n : ℕ) (s : Source) → IsProp (Refers n s)
@@ -53,23 +59,17 @@ Refers-prop n Start = hlevel
 Refers-prop n (Step i v) = hlevel props
 Refers-prop n (Call i j o w t) = hlevel props
 
--- and one at most of a book
+-- and one at most that the entries of a log spell out their moves, and of a book
+pub Spells-prop : (l : Log) → IsProp (Spells l)
+Spells-prop l = hlevel (props, Refers-prop)
+
 pub Book-prop : (m : Meaning) (c : Content) (l : Log) → IsProp (Book m c l)
-Book-prop m c l = hlevel (props, Refers-prop)
+Book-prop m c l = hlevel (props, Spells-prop)
 
 -- a sound content and a log of it
 pub record Ready (m : Meaning) (c : Content) (l : Log) : Type 0 where
   pub sound : Sound m c
   pub book : Book m c l
-
--- the record of entry i
-abbrev pub nth_record : Log → ℕ → Record
-nth_record l i = record_at l.entries i
-
--- where the row o leads from p as an open row, or that it is none there
-abbrev pub OpensWay : Meaning → Content → ℕ → Place → Option Way → Type 0
-OpensWay m c o p None = (q : Place) (k n : ℕ) → Transition m c (bare o) p q k (Opens n) → ⊥
-OpensWay m c o p (Some w) = Transition m c (bare o) p w.to w.cost (Opens w.bracket)
 
 -- the log with r settled, at the pair p
 abbrev pub pushed : Log → ℕ → Entry → ℕ → Log

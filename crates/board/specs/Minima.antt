@@ -1,5 +1,5 @@
 -- The least costs that settling keeps beside its log: of links and of candidates.
-use Rattle.std.specs.Prelude.{◌≡◌, ℕ, ◌+◌, ◌*◌, ◌<◌, Bool, true, false, ◌&&◌, ◌==◌, ◌⊎◌, List, length, Some, None, slice_index, slice_index_or}
+use Rattle.std.specs.Prelude.{◌≡◌, ℕ, ◌+◌, ◌*◌, ◌<◌, Bool, true, false, ◌&&◌, ◌==◌, ◌⊎◌, List, length, Some, None, Option, slice_index, slice_index_or}
 use Rattle.std.specs.List.{slice_get}
 use Rattle.costs.specs.Meaning.{Meaning, NoDearer}
 use Rattle.board.specs.declared.row.Row.{Row}
@@ -10,6 +10,7 @@ use Rattle.board.specs.declared.log.Entry.{Entry}
 use Rattle.board.specs.declared.log.Log.{Log}
 use Rattle.board.specs.declared.settling.Minima.{Minima}
 use Rattle.board.specs.declared.settling.Waiting.{Waiting}
+use Rattle.board.specs.declared.settling.Way.{Way}
 use Rattle.board.specs.Content.{Content}
 use Rattle.board.specs.Rows.{kind_number}
 use Rattle.board.specs.Moves.{Place, place_number, Transition}
@@ -17,6 +18,11 @@ use Rattle.board.specs.Settling.{Record, bare, Candidate}
 use Rattle.board.specs.Logged.{pair_of}
 use Rattle.board.specs.Logs.{records, numbered, Ready}
 use Rattle.board.specs.Lowering.{Costing, Attained, Bounds, Among}
+
+-- where the row o leads from p as an open row, or that it is none there
+abbrev pub OpensWay : Meaning → Content → ℕ → Place → Option Way → Type 0
+OpensWay m c o p None = (q : Place) (k n : ℕ) → Transition m c (bare o) p q k (Opens n) → ⊥
+OpensWay m c o p (Some w) = Transition m c (bare o) p w.to w.cost (Opens w.bracket)
 
 -- The open row o, the entry b and the close row w of the same bracket: p is the number of the place where the open row
 -- starts and of that to which the close row leads, and k is what the three cost.
@@ -92,32 +98,39 @@ pub record FollowedFrom (m : Meaning) (l : Log) (r q cost s p k : ℕ) : Type 0 
   pub cost_is : k ≡ m.join (numbered l front).cost cost
 
 -- The least of the costs of the unsettled pairs from the place numbered s to the first n, or the worst where none is below it.
-pub record RowLeast (m : Meaning) (l : Log) (costs : List ℕ) (s n x : ℕ) : Type 0 where
+pub record PlaceLeast (m : Meaning) (l : Log) (costs : List ℕ) (s n x : ℕ) : Type 0 where
   pub attained : (x ≡ m.worst) ⊎ ((q : ℕ) × (q < n) × (slice_index_or l.index (s * 64 + q) None ≡ None) × (slice_index costs (s * 64 + q) ≡ x))
   pub bounds : (q : ℕ) → q < n → slice_index_or l.index (s * 64 + q) None ≡ None → NoDearer m x (slice_index costs (s * 64 + q))
 
--- the same for each place
-pub record RowsLeast (m : Meaning) (l : Log) (w : Waiting) : Type 0 where
+-- the same for each first place
+pub record PlacesLeast (m : Meaning) (l : Log) (w : Waiting) : Type 0 where
   pub long : length w.least ≡ 64
-  pub rows : (s : ℕ) → s < 64 → RowLeast m l w.costs s 64 (slice_index w.least s)
+  pub places : (s : ℕ) → s < 64 → PlaceLeast m l w.costs s 64 (slice_index w.least s)
 
--- Links and candidates belong together: each is attained, no entry with a link behind it is cheaper than what waits, and the
--- least by first place are right.
+-- each of the costs by two places is the worst, or a link's
+pub record LinksHeld (m : Meaning) (c : Content) (l : Log) (links : List ℕ) : Type 0 where
+  pub long : length links ≡ 4096
+  pub attained : Attained m (Link m c l) links
+
+-- each of the costs by pairs is the worst, or a candidate's, and the least by first place are right
+pub record WaitingHeld (m : Meaning) (c : Content) (l : Log) (w : Waiting) : Type 0 where
+  pub long : length w.costs ≡ 4096
+  pub attained : Attained m (CandidateAt m c l) w.costs
+  pub least : PlacesLeast m l w
+
+-- Links and candidates belong together: no entry with a link behind it is cheaper than what waits.
 pub record Linked (m : Meaning) (c : Content) (l : Log) (links : List ℕ) (waiting : Waiting) : Type 0 where
-  pub links_long : length links ≡ 4096
-  pub links_attained : Attained m (Link m c l) links
-  pub waiting_long : length waiting.costs ≡ 4096
-  pub waiting_attained : Attained m (CandidateAt m c l) waiting.costs
+  pub held_links : LinksHeld m c l links
+  pub held_waiting : WaitingHeld m c l waiting
   pub followed : (i : ℕ) → i < l.count → Bounds m (Followed m c links (numbered l i)) waiting.costs
-  pub least : RowsLeast m l waiting
 
--- the same by marked rows
+-- the open row o, the entry and the close row w, both rows marked
 pub record BracketedIf (m : Meaning) (c : Content) (leads : List Bool) (b : Entry) (o w p k : ℕ) : Type 0 where
   pub opener : slice_index_or leads o false ≡ true
   pub closer : slice_index_or leads w false ≡ true
   pub by : BracketedBy m c b o w p k
 
--- and by any close row, and by any two rows
+-- the same with any marked close row, and with any two marked rows
 abbrev pub BracketedOn : Meaning → Content → List Bool → Entry → ℕ → Costing
 BracketedOn m c leads b o p k = (w : ℕ) × BracketedIf m c leads b o w p k
 
@@ -138,16 +151,16 @@ pub record StandsFor (m : Meaning) (c : Content) (r : Row) (lead : ℕ) : Type 0
   pub label : by.label ≡ r.label
   pub no_dearer : NoDearer m by.cost r.cost
 
--- a marked row stands for the row of this number
+-- a marked row stands for the row of this number, if there is one
 abbrev pub LedAt : Meaning → Content → List Bool → ℕ → Type 0
 LedAt m c leads row = (r : Row) → slice_get c.rows row ≡ Some r → (lead : ℕ) × (slice_index_or leads lead false ≡ true) × StandsFor m c r lead
 
--- for each row a marked row stands
+-- for each row a marked row stands for it
 abbrev pub Led : Meaning → Content → List Bool → Type 0
 Led m c leads = (row : ℕ) → LedAt m c leads row
 
 -- What holds after each entry, of the log and the least costs: links are the least there are, candidates belong to them, and
--- for each row a marked row stands.
+-- each row has a marked row that stands for it.
 pub record State (m : Meaning) (c : Content) (l : Log) (s : Minima) : Type 0 where
   pub ready : Ready m c l
   pub linked : Linked m c l s.links s.waiting

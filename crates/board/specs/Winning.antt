@@ -128,7 +128,7 @@ pub record TightAt (m : Meaning) (c : Content) (l : Log) (g : Goal) (r : ℕ) : 
   pub link : Link m c l (r * 64 + place_number c g.to) price
   pub within : NoDearer m (m.join (numbered l front).cost price) g.cost
 
--- the places from which a link may make the goal
+-- an ascending list that misses no place from which a link may make the goal
 abbrev pub TightOf : {K : Type 0} {k : Ghosts K} → Meaning → Known K k → Goal → List ℕ → Type 0
 TightOf m a g xs = Gathered (TightAt m (held a.tables.now) a.log.now g) 64 xs
 
@@ -156,7 +156,7 @@ closes_from r n u = is_close r.kind && (r.label == n && r.from == u)
 abbrev pub closes_to : Row → ℕ → ℕ → Bool
 closes_to r n u = is_close r.kind && (r.label == n && r.to == u)
 
--- for each close row that leads to the mode u one of the list stands
+-- for each close row that leads to the mode u one of the list stands for it
 abbrev pub Serve : Meaning → Content → ℕ → List ℕ → Type 0
 Serve m c u xs = (w : ℕ) (r : Row) → slice_get c.rows w ≡ Some r → r.kind ≡ Close → r.to ≡ u → (n : ℕ) × (n < length xs) × StandsFor m c r (slice_index xs n)
 

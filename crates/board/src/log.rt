@@ -34,11 +34,3 @@ pub(crate) struct Log {
     pub index: [Option<u16>; 4096],
     pub lengths: [u32; 4096],
 }
-
-// Where an open row leads, at what cost, and its bracket.
-#[derive(Clone, Copy)]
-pub(crate) struct Way {
-    pub to: Place,
-    pub cost: u32,
-    pub bracket: u8,
-}

@@ -4,7 +4,7 @@ ghost use Rattle.board.specs.Refusals.{number, refusal_text};
 
 use std::fmt;
 
-// The board's refusals. Each call gives the first of its own that applies, in the order of the numbers.
+// The board's refusals. Each call gives the first of its own that applies, in the order of the numbers; the check asks this of one move after the other.
 #[derive(Clone, Copy, Debug, PartialEq, Eq)]
 pub enum Refusal {
     // 1, size: a row or a line is held

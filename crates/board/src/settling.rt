@@ -66,3 +66,11 @@ pub(crate) struct Goal {
     to: Place,
     cost: u32,
 }
+
+// Where an open row leads, at what cost, and its bracket.
+#[derive(Clone, Copy)]
+pub(crate) struct Way {
+    to: Place,
+    cost: u32,
+    bracket: u8,
+}

@@ -1,7 +1,8 @@
 // Spelling out the moves of an entry.
 ghost use Rattle.std.specs.Prelude.{◌≡◌, ℕ, ◌<◌, ◌≤◌, ◌++◌, map, length, drop};
 ghost use Rattle.board.specs.Packing.{packed, Small};
-ghost use Rattle.board.specs.Spelled.{Spells, moves_at, move_of};
+ghost use Rattle.board.specs.Logs.{Spells};
+ghost use Rattle.board.specs.Spelled.{moves_at, move_of};
 
 use crate::cursor::Cursor;
 use crate::log::Log;

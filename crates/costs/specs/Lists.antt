@@ -21,6 +21,7 @@ abbrev pub no_cost_from : Meaning → ℕ → List ℕ → Option ℕ
 no_cost_from m i [] = None
 no_cost_from m i (x ∷ xs) = cond (m.is_cost x) (no_cost_from m (suc i) xs) (Some i)
 
+-- the joined cost, unless some number of the list is no cost
 abbrev pub unless_no_cost : Option ℕ → ℕ → Result ℕ ℕ
 unless_no_cost None k = Ok k
 unless_no_cost (Some i) k = Err i

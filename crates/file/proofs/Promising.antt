@@ -11,13 +11,13 @@ use Rattle.board.specs.Ease.{Eased, CallsEase}
 use Rattle.board.specs.Packing.{packed}
 use Rattle.board.specs.Settling.{RecordedReading, HasNoReading, Answer}
 use Rattle.board.specs.Computing.{ReadingFound, found, settled_log}
-use Rattle.board.specs.Questions.{cost_told as told_of, path_told as path_of, path_written}
+use Rattle.board.specs.Questions.{cost_told, path_told, path_written}
 use Rattle.board.specs.Promises.{BoardPromises, Cheapest, Computed, NoneBelow}
 use Rattle.file.specs.declared.call.Call.{Call}
 use Rattle.file.specs.declared.call.Call.TheVariants as call
 use Rattle.file.specs.States.{State, draft, settled, content, fault, on_draft, stepped, state_from, state_after}
 use Rattle.file.specs.Easing.{Question, cost, Eases, adds_row, adds_line, reprices_row, reprices_line, settles, reopens, asks, declined, AllEase, none, next}
-use Rattle.file.specs.Promise.{cost_told, cost_or_worst, answered_cost, Writes, written, AnsweredReading, AnswersCheapest, MainPromise}
+use Rattle.file.specs.Promise.{settled_cost, cost_or_worst, answered_cost, Writes, written, AnsweredReading, AnswersCheapest, MainPromise}
 use Rattle.file.specs.Promise as promise
 use Rattle.file.proofs.Sounding.{stepped_sound, state_sound}
 
@@ -48,8 +48,8 @@ module _ {m : Meaning} (laws : Lawful m) (promises : BoardPromises) where
     writes f buffer false true h k = promise.declined (inl (leb-false _ _ h))
     writes f buffer false false h k = promise.declined (inl (leb-false _ _ h))
 
-    written_so : (f : ReadingFound) (buffer : List ℕ) → found m c (settled_log m c) ≡ Some f → Writes f.moves buffer (path_of (found m c (settled_log m c)) buffer) (path_written (found m c (settled_log m c)) buffer)
-    written_so f buffer e = subst (λ (o : Option ReadingFound). Writes f.moves buffer (path_of o buffer) (path_written o buffer)) (sym e) (writes f buffer _ _ refl refl)
+    written_so : (f : ReadingFound) (buffer : List ℕ) → found m c (settled_log m c) ≡ Some f → Writes f.moves buffer (path_told (found m c (settled_log m c)) buffer) (path_written (found m c (settled_log m c)) buffer)
+    written_so f buffer e = subst (λ (o : Option ReadingFound). Writes f.moves buffer (path_told o buffer) (path_written o buffer)) (sym e) (writes f buffer _ _ refl refl)
 
     reading_of : (f : ReadingFound) → found m c (settled_log m c) ≡ Some f → AnsweredReading m c f.cost (min (length f.moves) 65536)
     reading_of f e =
@@ -64,23 +64,23 @@ module _ {m : Meaning} (laws : Lawful m) (promises : BoardPromises) where
           cheapest = λ other x h. cheapest.cheapest f.cost x f.moves other r h;
         }
 
-    reading : (o : Option ReadingFound) → found m c (settled_log m c) ≡ o → (k n : ℕ) → told_of o ≡ Ok (k, n) → AnsweredReading m c k n
+    reading : (o : Option ReadingFound) → found m c (settled_log m c) ≡ o → (k n : ℕ) → cost_told o ≡ Ok (k, n) → AnsweredReading m c k n
     reading None e k n h = absurd cc
     reading (Some f) e k n h =
         let same : (f.cost, min (length f.moves) 65536) ≡ (k, n) = cc in
         subst (λ (p : ℕ × ℕ). AnsweredReading m c p.0 p.1) same (reading_of f e)
 
-    none_found : (o : Option ReadingFound) → found m c (settled_log m c) ≡ o → told_of o ≡ Err NoReading → found m c (settled_log m c) ≡ None
+    none_found : (o : Option ReadingFound) → found m c (settled_log m c) ≡ o → cost_told o ≡ Err NoReading → found m c (settled_log m c) ≡ None
     none_found None e h = e
     none_found (Some f) e h = absurd cc
 
-    none_below : (cost_told m c ≡ Err NoReading) ↔ NoneBelow m c
+    none_below : (settled_cost m c ≡ Err NoReading) ↔ NoneBelow m c
     none_below = (
       (λ h. cheapest.none.0 (unread (none_found _ refl h))),
-      λ h. ap told_of ((computed.none (settled_log m c) computed.settled).0 (cheapest.none.1 h)),
+      λ h. ap cost_told ((computed.none (settled_log m c) computed.settled).0 (cheapest.none.1 h)),
     )
 
-    answer : (o : Option ReadingFound) → found m c (settled_log m c) ≡ o → Answer m c (settled_log m c) (cost_or_worst m (told_of o))
+    answer : (o : Option ReadingFound) → found m c (settled_log m c) ≡ o → Answer m c (settled_log m c) (cost_or_worst m (cost_told o))
     answer None e = inr (unread e, refl)
     answer (Some f) e = inl (f.moves, recorded f e)
 

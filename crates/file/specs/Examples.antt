@@ -39,7 +39,7 @@ pub record LayoutExamples : Type 0 where
   pub above_is_worst : trusted points 17 4294967294 ≡ 4294967295
   -- trust does not scale severity
   pub unscaled : trusted severity 8 5 ≡ 5
-  -- a whole file, and the same under another kind, with a byte more, and with nothing
+  -- a whole file, the same under another kind, and no file at all
   pub small_written : written small ≡ small_bytes
   pub small_loaded : loaded points small_bytes ≡ Ok (record { content = record { modes = 1; moments = 1; rows = end_row ∷ []; lines = [] }; note = record { bytes = 104 ∷ 105 ∷ []; place = 16 } })
   pub other_kind : load_answer severity small_bytes ≡ Err (fault_at WrongLetter 0)

@@ -17,12 +17,12 @@ use Rattle.file.specs.States.{settled, state_after}
 use Rattle.file.specs.Easing.{AllEase}
 
 -- what a settled board with content c answers to cost,
-abbrev pub cost_told : Meaning → Content → Result (ℕ × ℕ) Refusal
-cost_told m c = cost_answer m c (settled_log m c)
+abbrev pub settled_cost : Meaning → Content → Result (ℕ × ℕ) Refusal
+settled_cost m c = cost_answer m c (settled_log m c)
 
 -- to path into that buffer,
-abbrev pub path_told : Meaning → Content → List ℕ → Result ℕ Refusal
-path_told m c buffer = path_answer m c (settled_log m c) buffer
+abbrev pub settled_path : Meaning → Content → List ℕ → Result ℕ Refusal
+settled_path m c buffer = path_answer m c (settled_log m c) buffer
 
 -- and what path leaves of it
 abbrev pub path_left : Meaning → Content → List ℕ → List ℕ
@@ -35,7 +35,7 @@ cost_or_worst m (Err e) = m.worst
 
 -- that of a settled board with content c
 abbrev pub answered_cost : Meaning → Content → ℕ
-answered_cost m c = cost_or_worst m (cost_told m c)
+answered_cost m c = cost_or_worst m (settled_cost m c)
 
 -- Path writes these moves to the front of the buffer, changes no later number and answers how many; or they are too many
 -- for the buffer or for the number, and it declines and leaves the buffer.
@@ -53,7 +53,7 @@ pub record AnsweredReading (m : Meaning) (c : Content) (k n : ℕ) : Type 0 wher
   -- it has the answered number of moves, 65,536 where it has more
   pub number : n ≡ min (length reading) 65536
   -- it is what path writes, into every buffer
-  pub written : (buffer : List ℕ) → Writes reading buffer (path_told m c buffer) (path_left m c buffer)
+  pub written : (buffer : List ℕ) → Writes reading buffer (settled_path m c buffer) (path_left m c buffer)
   -- the check accepts it, at the answered cost
   pub checked : check_answer m c (map packed reading) ≡ Ok k
   -- every complete reading costs at least as much
@@ -62,9 +62,9 @@ pub record AnsweredReading (m : Meaning) (c : Content) (k n : ℕ) : Type 0 wher
 -- A list of calls has left a new board settled with content c.
 pub record AnswersCheapest (m : Meaning) (calls : List Call) (c : Content) : Type 0 where
   -- if a cost is answered, the cheapest complete reading stands behind it
-  pub answered : (k n : ℕ) → cost_told m c ≡ Ok (k, n) → AnsweredReading m c k n
+  pub answered : (k n : ℕ) → settled_cost m c ≡ Ok (k, n) → AnsweredReading m c k n
   -- no cost is answered exactly when no complete reading costs less than the worst
-  pub none_below_worst : (cost_told m c ≡ Err NoReading) ↔ NoneBelow m c
+  pub none_below_worst : (settled_cost m c ≡ Err NoReading) ↔ NoneBelow m c
   -- if since an earlier time when it stood settled each call was one that eases, the answer is no dearer than then
   pub no_dearer_since : (before after : List Call) (c₀ : Content) → calls ≡ before ++ after → state_after m before ≡ settled c₀ → AllEase m (settled c₀) after → NoDearer m (answered_cost m c) (answered_cost m c₀)
 

@@ -38,7 +38,7 @@ pub data Told : Type 0 where
   costs : Result (ℕ × ℕ) Refusal → Told
   -- how many moves were written, or 11 or 12
   writes : Result ℕ Refusal → Told
-  -- the recorded cost of two places, or 13 or 14
+  -- the least cost between two places, or 13 or 14
   between : Result ℕ Refusal → Told
   -- the cost of the list, or 15 to 19 and where
   checked : Result ℕ Fault → Told
@@ -60,7 +60,7 @@ heard (answer.Between r) = between r
 heard (answer.Checked r) = checked r
 heard answer.Reopened = reopened
 
--- a draft's answers; it does not take the questions, nor reopen
+-- a draft's answers, but to settle; it does not take the questions, nor reopen
 abbrev pub draft_answer : Meaning → Content → Call → Told
 draft_answer m c (Size modes moments) = sized (answer (size_fault c modes moments) tt)
 draft_answer m c (AddRow r) = added (answer (row_fault m c r) (length c.rows))
@@ -71,7 +71,7 @@ draft_answer m c ClearLines = cleared (length c.lines)
 draft_answer m c (Load bytes) = loaded (load_answer m bytes.now)
 draft_answer m c x = not_taken
 
--- a settled board's answers, from its content and its records; it takes the questions alone
+-- a settled board's answers, but to reopen, from its content and its records; of other calls it takes the questions alone
 abbrev pub settled_answer : Meaning → Content → List Record → Call → List ℕ → Told
 settled_answer m c log Cost buffer = costs (cost_answer m c log)
 settled_answer m c log Path buffer = writes (path_answer m c log buffer)

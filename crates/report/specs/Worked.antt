@@ -15,7 +15,7 @@ use Rattle.file.specs.Layout.{header_word, row_word, written}
 use Rattle.file.specs.Load.{load_after}
 use Rattle.file.specs.Trust.{trusted}
 use Rattle.file.specs.States.{settled, state_after}
-use Rattle.file.specs.Promise.{cost_told, path_told, path_left}
+use Rattle.file.specs.Promise.{settled_cost, settled_path, path_left}
 use Rattle.report.specs.Least.{least_lines}
 
 -- a row by its kind, modes, label, action and cost, and a line by its moments, event and cost
@@ -72,12 +72,12 @@ two_brackets n = record { modes = 2; moments = 1; rows = row Open 0 1 0 0 2 ∷ 
 pub record WorkedExamples : Type 0 where
   -- the calls make the flight; cost 9 with five moves; path writes them into the front of a buffer of seven
   pub flight_made : state_after points flight_calls ≡ settled flight
-  pub flight_cost : cost_told points flight ≡ Ok (9, 5)
-  pub flight_path : path_told points flight (replicate 7 1) ≡ Ok 5
+  pub flight_cost : settled_cost points flight ≡ Ok (9, 5)
+  pub flight_path : settled_path points flight (replicate 7 1) ≡ Ok 5
   pub flight_written : path_left points flight (replicate 7 1) ≡ flight_moves ++ (1 ∷ 1 ∷ [])
   pub flight_check : check_answer points flight flight_moves ≡ Ok 9
   -- a buffer of four is refused, and left
-  pub short_buffer : path_told points flight (replicate 4 1) ≡ Err TooLong
+  pub short_buffer : settled_path points flight (replicate 4 1) ≡ Err TooLong
   pub short_left : path_left points flight (replicate 4 1) ≡ replicate 4 1
   -- the file begins with this header, row 1 is this word, and it loads to the flight
   pub header : header_word 80 3 3 16 ≡ 0x50060C10
@@ -86,17 +86,17 @@ pub record WorkedExamples : Type 0 where
   -- and this is printed
   pub flight_printed : least_lines flight_file ≡ codes "P 9 5\n0 - 0\n1 0 7\n3 - 0\n4 1 9\n5 - 0\n"
   -- in severity the cost is 4
-  pub severity_cost : cost_told severity flight ≡ Ok (4, 5)
+  pub severity_cost : settled_cost severity flight ≡ Ok (4, 5)
   -- row 4 repriced to 30 gives 35
   pub dearer_made : state_after points dearer_calls ≡ settled dearer
-  pub dearer_cost : cost_told points dearer ≡ Ok (35, 5)
+  pub dearer_cost : settled_cost points dearer ≡ Ok (35, 5)
   -- a new board has no reading; with an end row it has one move at cost 0
-  pub new_none : cost_told points new ≡ Err NoReading
+  pub new_none : settled_cost points new ≡ Err NoReading
   pub end_made : state_after points (AddRow (row End 0 0 0 0 0) ∷ Settle ∷ []) ≡ settled one_end
-  pub end_cost : cost_told points one_end ≡ Ok (0, 1)
+  pub end_cost : settled_cost points one_end ≡ Ok (0, 1)
   -- a bracket is closed by its own number alone
-  pub other_bracket : cost_told points (two_brackets 1) ≡ Err NoReading
-  pub same_bracket : cost_told points (two_brackets 0) ≡ Ok (9, 3)
+  pub other_bracket : settled_cost points (two_brackets 1) ≡ Err NoReading
+  pub same_bracket : settled_cost points (two_brackets 0) ≡ Ok (9, 3)
   -- in rank, seconds stop below the next breach, and the number after the last cost is declined
   pub rank_ceiling : rank.join 2097151 1 ≡ 2097151
   pub rank_declined : row_fault rank new (row End 0 0 0 0 4293918720) ≡ Some NoCost

@@ -1,6 +1,7 @@
 // What a cursor does.
 ghost use Rattle.std.specs.Prelude.{◌≡◌, ◌<◌, [], ◌∷◌, ◌++◌, length};
-ghost use Rattle.board.specs.Spelled.{Spells, moves_at};
+ghost use Rattle.board.specs.Logs.{Spells};
+ghost use Rattle.board.specs.Spelled.{moves_at};
 ghost use Rattle.board.specs.Cursors.{Walks, remaining};
 
 use crate::cursor::{Cursor, Pending};

@@ -1,7 +1,7 @@
 // Reading and extending the log.
-ghost use Rattle.std.specs.Prelude.{◌≡◌, ℕ, ◌<◌, ◌≤◌, min, length, None as ANone, slice_index, slice_index_or};
-ghost use Rattle.board.specs.Logs.{pushed, records, empty};
-ghost use Rattle.board.specs.Logged.{Refers, spelled, record_at};
+ghost use Rattle.std.specs.Prelude.{◌≡◌, ◌<◌, min, length, None as ANone, slice_index_or};
+ghost use Rattle.board.specs.Logs.{Spells, pushed, records, empty};
+ghost use Rattle.board.specs.Logged.{Refers, spelled};
 
 use crate::log::{Entry, Log, Source};
 
@@ -49,8 +49,7 @@ impl Log {
     // How many moves a source spells out, 65,536 where they are more.
     pub(crate) fn length_of(&self, source: Source) -> u32
         requires refers { Refers self.now.count source }
-        requires room { self.now.count ≤ 4096 }
-        requires right { (i : ℕ) → i < self.now.count → slice_index self.now.lengths i ≡ min (length (record_at self.now.entries i).moves) 65536 }
+        requires spells { Spells self.now }
         ensures { result ≡ min (length (spelled (records self.now) source)) 65536 }
     {
         match source {

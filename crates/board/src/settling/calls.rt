@@ -16,7 +16,7 @@ use crate::settling::{Goal, Known};
 use costs::Kind;
 
 impl<K: Kind> Known<'_, K> {
-    // The call by the open row a and the close row b, of these numbers, that opens at the moment.
+    // The call by the open row a and the close row b, of these numbers, that opens at the moment, if it makes the goal.
     fn call_at(&self, goal: Goal, o: u8, a: Row, w: u8, b: Row, moment: u8) -> Option<Source>
         requires on { GoalOn (held self.now.tables.now) goal }
         requires rows { Brackets (held self.now.tables.now) goal o w a b }
@@ -40,7 +40,7 @@ impl<K: Kind> Known<'_, K> {
         Some(Source::Call(i as u16, j as u16, o, w, moment))
     }
 
-    // The earliest call by the two rows.
+    // The earliest call by the two rows that makes the goal.
     fn call_by(&self, goal: Goal, o: u8, a: Row, w: u8, b: Row, tight: &[u8]) -> Option<Source>
         requires on { GoalOn (held self.now.tables.now) goal }
         requires rows { Brackets (held self.now.tables.now) goal o w a b }
@@ -108,7 +108,7 @@ impl<K: Kind> Known<'_, K> {
         false
     }
 
-    // The first call that the open row a opens.
+    // The first call that the open row a opens and that makes the goal.
     fn call_opened(&self, goal: Goal, o: u8, a: Row, closers: &[u8], tight: &[u8]) -> Option<Source>
         requires on { GoalOn (held self.now.tables.now) goal }
         requires cost { Cost K.meaning goal.cost }
@@ -136,7 +136,7 @@ impl<K: Kind> Known<'_, K> {
         None
     }
 
-    // The first call of all.
+    // The first call of all that makes the goal.
     pub(crate) fn first_call(&self, goal: Goal, leads: &[bool], links: &[u32]) -> Option<Source>
         requires on { GoalOn (held self.now.tables.now) goal }
         requires cost { Cost K.meaning goal.cost }

@@ -3,7 +3,7 @@ ghost use Rattle.std.specs.Prelude.{◌≡◌, ◌≢◌, ◌⊎◌, ℕ, ◌+�
 ghost use Rattle.costs.specs.Meaning.{Cost};
 ghost use Rattle.board.specs.Held.{held};
 ghost use Rattle.board.specs.Lowering.{Just};
-ghost use Rattle.board.specs.Minima.{CandidateAt, RowLeast, RowsLeast};
+ghost use Rattle.board.specs.Minima.{CandidateAt, PlaceLeast, PlacesLeast};
 ghost use Rattle.board.specs.Minimizing.{WaitingOf, WaitingLower};
 ghost use Rattle.board.specs.Winning.{LeastFrom, LeastOf};
 
@@ -13,7 +13,7 @@ use crate::settling::{Known, Waiting};
 use costs::Kind;
 
 impl<K: Kind> Known<'_, K> {
-    // A candidate at this cost, between the places numbered s and q.
+    // Lowers what waits for the places numbered s and q to this cost, which a candidate has.
     pub(crate) fn wait(&self, s: usize, q: usize, cost: u32, waiting: &mut Waiting)
         requires from { s < 64 }
         requires to { q < 64 }
@@ -35,9 +35,9 @@ impl<K: Kind> Known<'_, K> {
         requires long { length waiting.old.costs ≡ 4096 }
         requires least_long { length waiting.old.least ≡ 64 }
         requires costs { (p : ℕ) → p < 4096 → Cost K.meaning (slice_index waiting.old.costs p) }
-        requires others { (t : ℕ) → t < 64 → t ≢ s → RowLeast K.meaning self.now.log.now waiting.old.costs t 64 (slice_index waiting.old.least t) }
+        requires others { (t : ℕ) → t < 64 → t ≢ s → PlaceLeast K.meaning self.now.log.now waiting.old.costs t 64 (slice_index waiting.old.least t) }
         ensures costs { waiting.new.costs ≡ waiting.old.costs }
-        ensures rows { RowsLeast K.meaning self.now.log.now waiting.new }
+        ensures places { PlacesLeast K.meaning self.now.log.now waiting.new }
     {
         let mut least = K::worst();
         for q in 0..64 {
@@ -71,7 +71,7 @@ fn least_from<K: Kind>(waiting: &Waiting) -> Option<usize>
 pub(crate) fn least_pair<K: Kind>(log: &Log, waiting: &Waiting) -> Option<usize>
     requires long { length waiting.now.costs ≡ 4096 }
     requires costs { (p : ℕ) → p < 4096 → Cost K.meaning (slice_index waiting.now.costs p) }
-    requires rows { RowsLeast K.meaning log.now waiting.now }
+    requires places { PlacesLeast K.meaning log.now waiting.now }
     ensures { LeastOf K.meaning log.now waiting.now.costs 4096 result }
 {
     let Some(s) = least_from::<K>(waiting) else {

@@ -4,15 +4,14 @@ ghost use Rattle.board.specs.declared.moves.Effect.TheVariants.{Opens};
 ghost use Rattle.board.specs.Moves.{Transition};
 ghost use Rattle.board.specs.Settling.{bare};
 ghost use Rattle.board.specs.Held.{held};
-ghost use Rattle.board.specs.Logs.{OpensWay, numbered};
+ghost use Rattle.board.specs.Logs.{numbered};
 ghost use Rattle.board.specs.Lowering.{Just, Among};
-ghost use Rattle.board.specs.Minima.{Link, Followed, FollowedFrom, BracketedBy, BracketedOn, BracketedIn};
+ghost use Rattle.board.specs.Minima.{OpensWay, Link, Followed, FollowedFrom, BracketedBy, BracketedOn, BracketedIn};
 ghost use Rattle.board.specs.Minimizing.{LinksOf, LinkedOf, LinksLower, WaitingOf, WaitingLower};
 
-use crate::log::Way;
 use crate::moves::{Effect, Move, Place};
 use crate::settling::lower::lower;
-use crate::settling::{Known, Waiting};
+use crate::settling::{Known, Waiting, Way};
 use crate::tables::Tables;
 use costs::Kind;
 
@@ -32,7 +31,7 @@ fn opens<K: Kind>(t: &Tables<K>, row: u8, place: Place) -> Option<Way>
 }
 
 impl<K: Kind> Known<'_, K> {
-    // What waits, after the entry i with each link behind it.
+    // Lowers what waits by the entry i with each link behind it.
     pub(crate) fn follow(&self, i: usize, links: &[u32], waiting: &mut Waiting)
         requires within { i < self.now.log.now.count }
         requires links { LinksOf K.meaning self.now links.now }
@@ -47,7 +46,7 @@ impl<K: Kind> Known<'_, K> {
         }
     }
 
-    // What waits, after each entry to the place numbered r with a link at this cost behind it, to the place numbered q.
+    // Lowers what waits by each entry to the place numbered r with a link at this cost behind it, to the place numbered q.
     fn follow_to(&self, r: usize, q: usize, cost: u32, waiting: &mut Waiting)
         requires from { r < 64 }
         requires to { q < 64 }
@@ -63,7 +62,7 @@ impl<K: Kind> Known<'_, K> {
         }
     }
 
-    // A link at this cost between the places numbered r and q.
+    // Lowers the link between the places numbered r and q to this cost, and what waits, where it is cheaper.
     fn link(&self, r: usize, q: usize, cost: u32, links: &mut [u32], waiting: &mut Waiting)
         requires from { r < 64 }
         requires to { q < 64 }
@@ -77,8 +76,8 @@ impl<K: Kind> Known<'_, K> {
         }
     }
 
-    // The link by the open row o, the entry j and the close row w, if they follow on. The open row leads there from the
-    // place, by this way.
+    // Lowers the link by the open row o, the entry j and the close row w, if they follow on. The open row leads to the entry
+    // from the place, by this way.
     fn bracket_by(
         &self,
         j: usize,
@@ -108,7 +107,7 @@ impl<K: Kind> Known<'_, K> {
         self.link(r, q, cost, links, waiting);
     }
 
-    // The links by the open row o, the entry j and each marked close row.
+    // Lowers the links by the open row o, the entry j and each marked close row.
     fn bracket_on(&self, j: usize, o: u8, leads: &[bool], links: &mut [u32], waiting: &mut Waiting)
         requires within { j < self.now.log.now.count }
         requires leads { length leads.now ≡ 128 }
@@ -136,7 +135,7 @@ impl<K: Kind> Known<'_, K> {
         }
     }
 
-    // The links by the entry j and any marked rows before and behind it.
+    // Lowers the links by the entry j and any marked rows before and behind it.
     pub(crate) fn bracket(&self, j: usize, leads: &[bool], links: &mut [u32], waiting: &mut Waiting)
         requires within { j < self.now.log.now.count }
         requires leads { length leads.now ≡ 128 }

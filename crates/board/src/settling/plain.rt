@@ -10,7 +10,7 @@ use crate::tables::Tables;
 use costs::Kind;
 
 impl<K: Kind> Tables<K> {
-    // That by the move from the place, if it starts there and has no bracket.
+    // Lowers the link that the move makes from the place, if it starts there and has no bracket.
     fn link_from(&self, v: Move, place: Place, links: &mut [u32])
         requires long { length links.old ≡ 4096 }
         requires ok { Attained K.meaning (Plain K.meaning (held self.now)) links.old }
@@ -23,7 +23,7 @@ impl<K: Kind> Tables<K> {
         }
     }
 
-    // Those by the row, alone and with each line.
+    // Lowers the links that the row makes, alone and with each line.
     fn links_by(&self, row: u8, links: &mut [u32])
         requires long { length links.old ≡ 4096 }
         requires ok { Attained K.meaning (Plain K.meaning (held self.now)) links.old }
@@ -47,7 +47,7 @@ impl<K: Kind> Tables<K> {
         }
     }
 
-    // All of them.
+    // Lowers the links by all moves without brackets.
     pub(crate) fn add_links(&self, links: &mut [u32])
         requires long { length links.old ≡ 4096 }
         requires ok { Attained K.meaning (Plain K.meaning (held self.now)) links.old }

@@ -5,10 +5,10 @@ use Rattle.board.proofs.Links.{no_close_row, no_close_from, bracket_small, brack
 use Rattle.board.proofs.settling.Known.bracket_by.Goals as goal
 
 pub returns-in_default-clause-lower : goal.returns-in_default-clause-lower
-returns-in_default-clause-lower g c = bracket_none g.met.K.Kind.lawful (ready_of c.args.self.now) c.args.j c.requires.within c.args.o _ c.args.w c.requires.ok.links_attained (no_close_row g.met.K.Kind.lawful (ready_of c.args.self.now) c.args.j c.requires.within c.args.o c.args.place c.args.way c.requires.opens c.args.w (sym c.row.ensures ∙ c.in_default.is))
+returns-in_default-clause-lower g c = bracket_none g.met.K.Kind.lawful (ready_of c.args.self.now) c.args.j c.requires.within c.args.o _ c.args.w c.requires.ok.held_links.attained (no_close_row g.met.K.Kind.lawful (ready_of c.args.self.now) c.args.j c.requires.within c.args.o c.args.place c.args.way c.requires.opens c.args.w (sym c.row.ensures ∙ c.in_default.is))
 
 pub returns-then-not-closes_from-clause-lower : goal.returns-then-not-closes_from-clause-lower
-returns-then-not-closes_from-clause-lower g c = bracket_none g.met.K.Kind.lawful (ready_of c.args.self.now) c.args.j c.requires.within c.args.o _ c.args.w c.requires.ok.links_attained (no_close_from g.met.K.Kind.lawful (ready_of c.args.self.now) c.args.j c.requires.within c.args.o c.args.place c.args.way c.requires.opens c.args.w c.in-Some.close (sym c.row.ensures ∙ c.in-Some.is) (sym c.closes_from.ensures ∙ c.if-not-closes_from.true))
+returns-then-not-closes_from-clause-lower g c = bracket_none g.met.K.Kind.lawful (ready_of c.args.self.now) c.args.j c.requires.within c.args.o _ c.args.w c.requires.ok.held_links.attained (no_close_from g.met.K.Kind.lawful (ready_of c.args.self.now) c.args.j c.requires.within c.args.o c.args.place c.args.way c.requires.opens c.args.w c.in-Some.close (sym c.row.ensures ∙ c.in-Some.is) (sym c.closes_from.ensures ∙ c.if-not-closes_from.true))
 
 pub link-requires-clause-from : goal.link-requires-clause-from
 link-requires-clause-from g c =

@@ -12,13 +12,13 @@ pub offset_bounds-self-i : goal.offset_bounds-self-i
 offset_bounds-self-i g c =
     let a = c.args.self.now in
     let h = (front_found g.met.K.Kind.lawful (ready_of a) c.args.r c.args.q c.args.cost c.requires.from c.requires.to c.requires.link c.loop-s.s c.in-Some.i (sym c.at.ensures ∙ c.in-Some.is)).0 in
-    omega (arith, h, a.book.room)
+    omega (arith, h, a.book.spells.room)
 
 pub bounds-self-i : goal.bounds-self-i
 bounds-self-i g c =
     let a = c.args.self.now in
     let h = (front_found g.met.K.Kind.lawful (ready_of a) c.args.r c.args.q c.args.cost c.requires.from c.requires.to c.requires.link c.loop-s.s c.in-Some.i (sym c.at.ensures ∙ c.in-Some.is)).0 in
-    omega (arith, h, a.book.room)
+    omega (arith, h, a.book.spells.room)
 
 pub wait-requires-clause-some : goal.wait-requires-clause-some
 wait-requires-clause-some g c =

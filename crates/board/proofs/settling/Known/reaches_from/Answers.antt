@@ -12,13 +12,13 @@ pub offset_bounds-self-i : goal.offset_bounds-self-i
 offset_bounds-self-i g c =
     let a = c.args.self.now in
     let h = (between_places (ready_of a) c.args.goal.from (c.args.a.from, c.args.moment) c.requires.on.0 (leaves_on c.args.self.now.tables.now.sound c.args.o c.args.a c.requires.row _ c.requires.moment) c.args.i c.requires.front).0 in
-    omega (arith, h, a.book.room)
+    omega (arith, h, a.book.spells.room)
 
 pub bounds-self-i : goal.bounds-self-i
 bounds-self-i g c =
     let a = c.args.self.now in
     let h = (between_places (ready_of a) c.args.goal.from (c.args.a.from, c.args.moment) c.requires.on.0 (leaves_on c.args.self.now.tables.now.sound c.args.o c.args.a c.requires.row _ c.requires.moment) c.args.i c.requires.front).0 in
-    omega (arith, h, a.book.room)
+    omega (arith, h, a.book.spells.room)
 
 pub at-requires : goal.at-requires
 at-requires g c =
@@ -29,13 +29,13 @@ pub offset_bounds-self-j : goal.offset_bounds-self-j
 offset_bounds-self-j g c =
     let a = c.args.self.now in
     let h = (between_places (ready_of a) (c.args.a.to, c.args.moment) (c.in-Some.b.from, c.args.goal.to.1) (enters_on c.args.self.now.tables.now.sound c.args.o c.args.a c.requires.row _ c.requires.moment) (leaves_on c.args.self.now.tables.now.sound _ c.in-Some.b (sym c.row.ensures ∙ c.in-Some.is) _ c.requires.on.1.1) c.in-Some-at.j (sym (c.at.ensures ∙ ap (λ (p : ℕ). get_or c.args.self.now.log.now.index p None) c.pair-inside.ensures) ∙ c.in-Some-at.is)).0 in
-    omega (arith, h, a.book.room)
+    omega (arith, h, a.book.spells.room)
 
 pub bounds-self-j : goal.bounds-self-j
 bounds-self-j g c =
     let a = c.args.self.now in
     let h = (between_places (ready_of a) (c.args.a.to, c.args.moment) (c.in-Some.b.from, c.args.goal.to.1) (enters_on c.args.self.now.tables.now.sound c.args.o c.args.a c.requires.row _ c.requires.moment) (leaves_on c.args.self.now.tables.now.sound _ c.in-Some.b (sym c.row.ensures ∙ c.in-Some.is) _ c.requires.on.1.1) c.in-Some-at.j (sym (c.at.ensures ∙ ap (λ (p : ℕ). get_or c.args.self.now.log.now.index p None) c.pair-inside.ensures) ∙ c.in-Some-at.is)).0 in
-    omega (arith, h, a.book.room)
+    omega (arith, h, a.book.spells.room)
 
 pub loop-n-preserved : goal.loop-n-preserved
 loop-n-preserved g c = none_by_more g.met.K.Kind.lawful (ready_of c.args.self.now) c.args.goal c.requires.on c.args.o c.args.a c.requires.row c.requires.opens c.args.moment c.args.i c.requires.moment c.requires.front c.args.closers.now c.loop-n.n c.loop-n.invariant (λ close x s. elim c.match-row.branch [

@@ -25,13 +25,13 @@ pub offset_bounds-self-i : goal.offset_bounds-self-i
 offset_bounds-self-i g c =
     let a = c.args.self.now in
     let h = (from_start g.met.K.Kind.lawful (ready_of a) c.args.goal c.requires.on c.args.place c.requires.place c.in-Some.i (sym (c.at.ensures ∙ ap (λ (p : ℕ). get_or a.log.now.index p None) c.pair.ensures) ∙ c.in-Some.is)).0 in
-    omega (arith, h, a.book.room)
+    omega (arith, h, a.book.spells.room)
 
 pub bounds-self-i : goal.bounds-self-i
 bounds-self-i g c =
     let a = c.args.self.now in
     let h = (from_start g.met.K.Kind.lawful (ready_of a) c.args.goal c.requires.on c.args.place c.requires.place c.in-Some.i (sym (c.at.ensures ∙ ap (λ (p : ℕ). get_or a.log.now.index p None) c.pair.ensures) ∙ c.in-Some.is)).0 in
-    omega (arith, h, a.book.room)
+    omega (arith, h, a.book.spells.room)
 
 pub returns-then-join-goal : goal.returns-then-join-goal
 returns-then-join-goal g c =

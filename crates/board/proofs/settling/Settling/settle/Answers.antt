@@ -7,7 +7,7 @@ use Rattle.board.specs.Minima.{CandidateAt, Followed}
 use Rattle.board.proofs.Numbers.{number_in}
 use Rattle.board.proofs.Links.{attained_cost_within}
 use Rattle.board.proofs.Pushing.{room_here}
-use Rattle.board.proofs.Stating.{extended, links_stay, waiting_stay, rows_stay, linked_stays, state_more}
+use Rattle.board.proofs.Stating.{extended, links_stay, waiting_stay, places_stay, linked_stays, state_more}
 use Rattle.board.proofs.settling.Settling.settle.Goals as goal
 
 pub push-requires-clause-room : goal.push-requires-clause-room
@@ -21,7 +21,7 @@ invariant_of-known g c =
 pub follow-requires-clause-links : goal.follow-requires-clause-links
 follow-requires-clause-links g c =
     let more = extended c.requires.state.ready c.pair.ensures c.requires.fresh c.requires.kept c.requires.refers c.length_of-moves.ensures c.push.ensures in
-    (c.requires.state.linked.links_long, links_stay g.met.K.Kind.lawful more _ c.requires.state.linked.links_attained)
+    record { long = c.requires.state.linked.held_links.long; attained = links_stay g.met.K.Kind.lawful more _ c.requires.state.linked.held_links.attained }
 
 pub renew-requires-clause-from : goal.renew-requires-clause-from
 renew-requires-clause-from g c =
@@ -29,17 +29,17 @@ renew-requires-clause-from g c =
     omega (arith, h, c.place_number.ensures.number)
 
 pub renew-requires-clause-costs : goal.renew-requires-clause-costs
-renew-requires-clause-costs g c = attained_cost_within g.met.K.Kind.lawful c.requires.state.ready _ c.requires.state.linked.waiting_long c.requires.state.linked.waiting_attained
+renew-requires-clause-costs g c = attained_cost_within g.met.K.Kind.lawful c.requires.state.ready _ c.requires.state.linked.held_waiting.long c.requires.state.linked.held_waiting.attained
 
 pub renew-requires-clause-others : goal.renew-requires-clause-others
 renew-requires-clause-others g c =
     let more = extended c.requires.state.ready c.pair.ensures c.requires.fresh c.requires.kept c.requires.refers c.length_of-moves.ensures c.push.ensures in
-    λ t ht far. rows_stay g.met.K.Kind.lawful more c.requires.state _ c.pair.ensures t ht (subst (λ (n : ℕ). t ≢ n) c.place_number.ensures.number far) (ap (λ (x : Log). x.index) c.push.ensures)
+    λ t ht far. places_stay g.met.K.Kind.lawful more c.requires.state _ c.pair.ensures t ht (subst (λ (n : ℕ). t ≢ n) c.place_number.ensures.number far) (ap (λ (x : Log). x.index) c.push.ensures)
 
 pub follow-requires-clause-ok : goal.follow-requires-clause-ok
 follow-requires-clause-ok g c =
     let more = extended c.requires.state.ready c.pair.ensures c.requires.fresh c.requires.kept c.requires.refers c.length_of-moves.ensures c.push.ensures in
-    record { long = ap length c.renew.ensures.costs ∙ c.requires.state.linked.waiting_long; attained = rw c.renew.ensures.costs (waiting_stay g.met.K.Kind.lawful more _ c.requires.state.linked.waiting_attained); least = c.renew.ensures.rows }
+    record { long = ap length c.renew.ensures.costs ∙ c.requires.state.linked.held_waiting.long; attained = rw c.renew.ensures.costs (waiting_stay g.met.K.Kind.lawful more _ c.requires.state.linked.held_waiting.attained); least = c.renew.ensures.places }
 
 pub bracket-requires-clause-ok : goal.bracket-requires-clause-ok
 bracket-requires-clause-ok g c =
