@@ -27,15 +27,15 @@ fn run_case<F: FnOnce(Global, &[u8]) -> Result<Vec<u8>, AllocError>>(
     Ok(())
 }
 
+// (Closures, since the checker finds no contract of a function of another crate that is named by itself.)
 fn run(rt: &HostRuntime) -> anyhow::Result<()> {
     for n in 0..CASES {
         let name = format!(in rt.alloc(); "least/{n:03}.bin")?;
-        // a closure, since the checker finds no contract of `least` named by itself from another crate
         run_case(rt, name.as_str(), |heap, bytes| least(heap, bytes))?;
     }
     for n in 0..CASES {
         let name = format!(in rt.alloc(); "calls/{n:03}.txt")?;
-        run_case(rt, name.as_str(), run_script)?;
+        run_case(rt, name.as_str(), |heap, bytes| run_script(heap, bytes))?;
     }
     Ok(())
 }

@@ -47,11 +47,14 @@ module _ (tail : List ℕ) (dash : after_mark (45 ∷ 62 ∷ 32 ∷ []) tail ≡
       ∙ ap (longer x) (split_tail xs free.1)
       ∙ longer_cons x xs (split_of arrow tail)
 
--- a line by itself, and with an answer behind an arrow
+-- a line by itself has no arrow
+pub no_arrow_split : (xs : List ℕ) → NoSeparator point xs → split_of arrow xs ≡ None
+no_arrow_split xs free = ap (split_of arrow) (sym (append-nil xs)) ∙ split_tail [] refl refl xs free
+
+-- it says what its words say, and so it does with an answer behind an arrow
 pub line_alone : (xs : List ℕ) → NoSeparator point xs → line_parsed xs ≡ words_parsed (pieces_of spacing xs)
 line_alone xs free =
-    let split = ap (split_of arrow) (sym (append-nil xs)) ∙ split_tail [] refl refl xs free in
-    ap (λ o. words_parsed (pieces_of spacing (trimmed_of spacing (before_split xs o)))) split
+    ap (λ o. words_parsed (pieces_of spacing (trimmed_of spacing (before_split xs o)))) (no_arrow_split xs free)
     ∙ ap words_parsed (same_pieces spacing xs)
 
 pub line_answered : (xs answer : List ℕ) → NoSeparator point xs → line_parsed (xs ++ (arrow ++ answer)) ≡ words_parsed (pieces_of spacing xs)

@@ -2,3 +2,8 @@ pub mod Repeating
 pub mod Plain
 pub mod Arrows
 pub mod Writing
+pub mod Printing
+pub mod Lines
+pub mod Answered
+pub mod Working
+pub mod Again

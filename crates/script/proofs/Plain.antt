@@ -1,12 +1,12 @@
 -- Words with no spacing, no star and no '>' in them.
-use Rattle.std.proofs.Common.{◌≡◌, ℕ, ◌/◌, ◌%◌, ◌^◌, ◌<◌, Bool, true, false, not, ◌&&◌, ◌||◌, eqb, ltb, List, [], ◌∷◌, ◌++◌, length, decimal, refl, ap, ◌∙◌, append-nil, arith}
+use Rattle.std.proofs.Common.{◌≡◌, ℕ, ◌/◌, ◌%◌, ◌^◌, ◌<◌, Bool, true, false, not, ◌&&◌, ◌||◌, eqb, ltb, List, [], ◌∷◌, ◌++◌, length, decimal, sym, refl, ap, ◌∙◌, append_assoc, append-nil, arith}
 use Rattle.std.specs.List.{flat_map, AllByRecursion}
 use Rattle.std.proofs.lemmas.Fmt.{decimal_nonempty}
 use Rattle.std.proofs.lemmas.Bool.{and_parts, or_parts, not-true, ltb-true}
 use Rattle.std.proofs.lemmas.Bool.Decides.{nat_tests}
 use Rattle.words.specs.Hex.{hex_digit_of, written_byte, written_u16}
 use Rattle.words.specs.Numbers.{is_digit, all_digits}
-use Rattle.words.specs.Pieces.{spacing, pieces_of, NoSeparator}
+use Rattle.words.specs.Pieces.{spacing, newline, pieces_of, NoSeparator}
 use Rattle.words.proofs.Cutting.{cuts_apart, uncut_append}
 use Rattle.words.proofs.Digits.{decimal_digits}
 use Rattle.costs.specs.Names.{letter_of}
@@ -14,7 +14,7 @@ use Rattle.costs.specs.declared.kind_name.KindName.{KindName}
 use Rattle.costs.specs.declared.kind_name.KindName.TheVariants.{Points, Severity, Rank}
 use Rattle.script.specs.Written.{spaced}
 
--- the bytes '>' and '*', and all that no written word has
+-- the bytes '>' and '*', and these, spacing and newlines: all that no written word has
 abbrev pub point : ℕ → Bool
 point b = eqb b 62
 
@@ -22,7 +22,7 @@ abbrev pub star : ℕ → Bool
 star b = eqb b 42
 
 abbrev pub reserved : ℕ → Bool
-reserved b = spacing b || (point b || star b)
+reserved b = spacing b || (newline b || (point b || star b))
 
 -- a word without them
 abbrev pub Plain : List ℕ → Type 0
@@ -36,11 +36,17 @@ fewer sep also rules (b ∷ bs) uncut = (rules b uncut.0, fewer sep also rules b
 pub no_spacing : (b : ℕ) → reserved b ≡ false → spacing b ≡ false
 no_spacing b free = (or_parts (spacing b) _ free).0
 
+pub no_newline : (b : ℕ) → reserved b ≡ false → newline b ≡ false
+no_newline b free = (or_parts (newline b) _ (or_parts (spacing b) _ free).1).0
+
+points_and_stars : (b : ℕ) → reserved b ≡ false → (point b ≡ false) × (star b ≡ false)
+points_and_stars b free = or_parts (point b) (star b) (or_parts (newline b) _ (or_parts (spacing b) _ free).1).1
+
 pub no_point : (b : ℕ) → reserved b ≡ false → point b ≡ false
-no_point b free = (or_parts (point b) (star b) (or_parts (spacing b) _ free).1).0
+no_point b free = (points_and_stars b free).0
 
 pub no_star : (b : ℕ) → reserved b ≡ false → star b ≡ false
-no_star b free = (or_parts (point b) (star b) (or_parts (spacing b) _ free).1).1
+no_star b free = (points_and_stars b free).1
 
 -- a text that is written out
 abbrev all_free : List ℕ → Bool
@@ -65,7 +71,7 @@ plain_text w free =
 free_digit : (b : ℕ) → is_digit b ≡ true → reserved b ≡ false
 free_digit b digit = grind (arith, nat_tests)
 
-free_digits : (ds : List ℕ) → all_digits ds ≡ true → NoSeparator reserved ds
+pub free_digits : (ds : List ℕ) → all_digits ds ≡ true → NoSeparator reserved ds
 free_digits [] digits = tt
 free_digits (d ∷ ds) digits =
     let both = and_parts (is_digit d) (all_digits ds) digits in
@@ -100,24 +106,48 @@ free_letter Rank = refl
 pub plain_letter : (k : KindName) → Plain (letter_of k ∷ [])
 plain_letter k = (omega arith, (free_letter k, tt))
 
+-- bytes with no separator are one piece
+pub one_piece : (sep : ℕ → Bool) (bs : List ℕ) → 0 < length bs → NoSeparator sep bs → pieces_of sep bs ≡ bs ∷ []
+one_piece sep [] some uncut = absurd (omega (arith, some))
+one_piece sep (b ∷ bs) some uncut = (cuts_apart sep).one b bs uncut
+
 -- a line of plain words
-one_piece : (w : List ℕ) → Plain w → pieces_of spacing w ≡ w ∷ []
-one_piece [] plain = absurd (omega (arith, plain.0))
-one_piece (b ∷ bs) plain = (cuts_apart spacing).one b bs (fewer reserved spacing no_spacing (b ∷ bs) plain.1)
+word_piece : (w : List ℕ) → Plain w → pieces_of spacing w ≡ w ∷ []
+word_piece w plain = one_piece spacing w plain.0 (fewer reserved spacing no_spacing w plain.1)
 
 pub spaced_pieces : (w : List ℕ) (ws : List (List ℕ)) → Plain w → AllByRecursion Plain ws → pieces_of spacing (w ++ spaced ws) ≡ w ∷ ws
-spaced_pieces w [] plain plains = ap (pieces_of spacing) (append-nil w) ∙ one_piece w plain
+spaced_pieces w [] plain plains = ap (pieces_of spacing) (append-nil w) ∙ word_piece w plain
 spaced_pieces w (v ∷ ws) plain plains =
     (cuts_apart spacing).apart w 32 (v ++ spaced ws) refl
-    ∙ ap (λ ps. ps ++ pieces_of spacing (v ++ spaced ws)) (one_piece w plain)
+    ∙ ap (λ ps. ps ++ pieces_of spacing (v ++ spaced ws)) (word_piece w plain)
     ∙ ap (λ ps. w ∷ ps) (spaced_pieces v ws plains.0 plains.1)
 
-unpointed : (w : List ℕ) → Plain w → NoSeparator point w
-unpointed w plain = fewer reserved point no_point w plain.1
+-- a byte, besides a space, that no word has is not in the line
+module _ (also : ℕ → Bool) (rules : (b : ℕ) → reserved b ≡ false → also b ≡ false) (space : also 32 ≡ false) where
+  word_without : (w : List ℕ) → Plain w → NoSeparator also w
+  word_without w plain = fewer reserved also rules w plain.1
 
-spaced_unpointed : (ws : List (List ℕ)) → AllByRecursion Plain ws → NoSeparator point (spaced ws)
-spaced_unpointed [] plains = tt
-spaced_unpointed (w ∷ ws) plains = (refl, uncut_append point w (spaced ws) (unpointed w plains.0) (spaced_unpointed ws plains.1))
+  spaced_without : (ws : List (List ℕ)) → AllByRecursion Plain ws → NoSeparator also (spaced ws)
+  spaced_without [] plains = tt
+  spaced_without (w ∷ ws) plains = (space, uncut_append also w (spaced ws) (word_without w plains.0) (spaced_without ws plains.1))
 
-pub line_unpointed : (w : List ℕ) (ws : List (List ℕ)) → Plain w → AllByRecursion Plain ws → NoSeparator point (w ++ spaced ws)
-line_unpointed w ws plain plains = uncut_append point w (spaced ws) (unpointed w plain) (spaced_unpointed ws plains)
+  pub line_without : (w : List ℕ) (ws : List (List ℕ)) → Plain w → AllByRecursion Plain ws → NoSeparator also (w ++ spaced ws)
+  line_without w ws plain plains = uncut_append also w (spaced ws) (word_without w plain) (spaced_without ws plains)
+
+-- A line begins and ends with a plain word.
+pub record Ends (line : List ℕ) : Type 0 where
+  pub front : List ℕ
+  pub last : List ℕ
+  pub plain : Plain last
+  pub is : line ≡ front ++ last
+
+pub line_ends : (w : List ℕ) (ws : List (List ℕ)) → Plain w → AllByRecursion Plain ws → Ends (w ++ spaced ws)
+line_ends w [] plain plains = record { front = []; last = w; plain = plain; is = append-nil w }
+line_ends w (v ∷ ws) plain plains =
+    let e = line_ends v ws plains.0 plains.1 in
+    record {
+      front = w ++ (32 ∷ e.front);
+      last = e.last;
+      plain = e.plain;
+      is = ap (λ l. w ++ (32 ∷ l)) e.is ∙ sym (append_assoc w (32 ∷ e.front) e.last);
+    }

@@ -1,5 +1,5 @@
 -- Written calls read back.
-use Rattle.std.proofs.Common.{◌≡◌, ℕ, ◌^◌, ◌<◌, ◌≤◌, true, List, [], ◌∷◌, map, length, get_or, Some, decimal, refl, ap, ◌∙◌, arith}
+use Rattle.std.proofs.Common.{◌≡◌, ℕ, ◌^◌, ◌<◌, ◌≤◌, Bool, true, false, List, [], ◌∷◌, map, length, get_or, Some, decimal, refl, ap, ◌∙◌, arith}
 use Rattle.std.specs.Option.{option_map, option_and_then}
 use Rattle.std.specs.List.{AllByRecursion}
 use Rattle.std.proofs.lemmas.Bool.{cond-true, le-leb}
@@ -20,7 +20,8 @@ use Rattle.script.specs.Names.{spells}
 use Rattle.script.specs.Runs.{run_of, run_from, split_run, run_before, runs_of, not_too_long, check_call}
 use Rattle.script.specs.Script.{call, call_parsed, words_parsed}
 use Rattle.script.specs.Written.{file_words, row_numbers, line_numbers, name_word, words_after, written, UpTo, Fits, ReadsWritten}
-use Rattle.script.proofs.Plain.{Plain, is_plain, reserved, point, star, fewer, no_star, plain_decimal, plain_bytes, plain_u16, plain_text, plain_letter, spaced_pieces, line_unpointed}
+use Rattle.script.proofs.Plain.{Plain, is_plain, reserved, point, star, fewer, no_star, plain_decimal, plain_bytes, plain_u16, plain_text, plain_letter, no_point, spaced_pieces, line_without}
+use Rattle.script.proofs.Again.{said_again}
 use Rattle.script.proofs.Arrows.{line_alone, line_answered, no_star_split}
 
 -- decimal numbers
@@ -83,14 +84,14 @@ plain_names (path n) = refl
 plain_names (between s q) = refl
 plain_names (check ms) = refl
 
-plain_name : (c : Call) → Plain (name_word c)
+pub plain_name : (c : Call) → Plain (name_word c)
 plain_name c = plain_text (name_word c) (plain_names c)
 
 plain_file : (bs : List ℕ) → AllByRecursion (λ b. b < 2 ^ 8) bs → AllByRecursion Plain (file_words bs)
 plain_file [] small = tt
 plain_file (b ∷ bs) small = (plain_bytes b bs small, tt)
 
-plain_words : (c : Call) → Fits c → AllByRecursion Plain (words_after c)
+pub plain_words : (c : Call) → Fits c → AllByRecursion Plain (words_after c)
 plain_words (kind k) fits = (plain_letter k, tt)
 plain_words (size m t) fits = plain_decimals two_wide (m ∷ t ∷ []) two_wide_fit fits
 plain_words (row r) fits = plain_decimals row_limits (row_numbers r) row_limits_fit fits
@@ -143,8 +144,12 @@ says (path n) fits = ap (λ o. call_parsed (option_map (λ ns. path (get_or ns 0
 says (between s q) fits = ap call_parsed (says_two between s q fits)
 says (check ms) fits = ap call_parsed (says_moves ms fits.0 fits.1)
 
-unpointed : (c : Call) → Fits c → NoSeparator point (written c)
-unpointed c fits = line_unpointed (name_word c) (words_after c) (plain_name c) (plain_words c fits)
+-- no byte of a written call is one that no word has, but for a space
+pub written_without : (also : ℕ → Bool) → ((b : ℕ) → reserved b ≡ false → also b ≡ false) → also 32 ≡ false → (c : Call) → Fits c → NoSeparator also (written c)
+written_without also rules space c fits = line_without also rules space (name_word c) (words_after c) (plain_name c) (plain_words c fits)
+
+pub unpointed : (c : Call) → Fits c → NoSeparator point (written c)
+unpointed c fits = written_without point no_point refl c fits
 
 pieces : (c : Call) → Fits c → pieces_of spacing (written c) ≡ name_word c ∷ words_after c
 pieces c fits = spaced_pieces (name_word c) (words_after c) (plain_name c) (plain_words c fits)
@@ -153,4 +158,5 @@ pub reads_written : ReadsWritten
 reads_written = record {
   alone = λ c fits. line_alone (written c) (unpointed c fits) ∙ ap words_parsed (pieces c fits) ∙ says c fits;
   answered = λ c fits answer. line_answered (written c) answer (unpointed c fits) ∙ ap words_parsed (pieces c fits) ∙ says c fits;
+  again = said_again;
 }

@@ -1,5 +1,6 @@
 -- The calls that a script makes.
 use Rattle.std.specs.Prelude.{ℕ, List, Some, None, Option, vec_items}
+use Rattle.std.specs.Borrow.{Bor}
 use Rattle.costs.specs.declared.kind_name.KindName.{KindName}
 use Rattle.board.specs.declared.row.Row.{Row}
 use Rattle.board.specs.declared.row.Line.{Line}
@@ -49,24 +50,29 @@ command_of (Path n) = path n
 command_of (Between s q) = between s q
 command_of (Check xs) = check (vec_items xs)
 
--- a call on a board, as a script's; the length of path's buffer, which goes beside that call, is told as 0
-abbrev pub made_of : BoardCall → Call
-made_of (board.Size m t) = size m t
-made_of (board.AddRow r) = row r
-made_of (board.AddLine l) = line l
-made_of (board.RepriceRow i c) = reprice_row i c
-made_of (board.RepriceLine i c) = reprice_line i c
-made_of board.ClearLines = clear
-made_of (board.Load bs) = load bs.now
-made_of board.Settle = settle
-made_of board.Cost = cost
-made_of board.Path = path 0
-made_of (board.Between s q) = between s q
-made_of (board.Check xs) = check xs.now
-made_of board.Reopen = reopen
+-- a reference to the list, at address 0
+abbrev pub behind : {A : Type 0} → List A → Bor (List A)
+behind xs = record { ref_ptr = (0, 0); now = xs }
+
+-- a call on a board with the address of its bytes or moves set to 0, so that calls of the same contents are the same
+abbrev pub without_address : BoardCall → BoardCall
+without_address (board.Load bs) = board.Load (behind bs.now)
+without_address (board.Check xs) = board.Check (behind xs.now)
+without_address x = x
 
 -- the call on a board that a script's call makes; naming a kind makes none
-abbrev pub on_board : Call → Option Call
+abbrev pub on_board : Call → Option BoardCall
 on_board (kind k) = None
-on_board (path n) = Some (path 0)
-on_board c = Some c
+on_board (size m t) = Some (board.Size m t)
+on_board (row r) = Some (board.AddRow r)
+on_board (line l) = Some (board.AddLine l)
+on_board (reprice_row i c) = Some (board.RepriceRow i c)
+on_board (reprice_line i c) = Some (board.RepriceLine i c)
+on_board clear = Some board.ClearLines
+on_board (load bs) = Some (board.Load (behind bs))
+on_board settle = Some board.Settle
+on_board reopen = Some board.Reopen
+on_board cost = Some board.Cost
+on_board (path n) = Some board.Path
+on_board (between s q) = Some (board.Between s q)
+on_board (check xs) = Some (board.Check (behind xs))

@@ -5,3 +5,7 @@ pub mod Forms
 pub mod Runs
 pub mod Script
 pub mod Written
+pub mod Telling
+pub mod Printing
+pub mod Sessions
+pub mod Worked

@@ -8,7 +8,7 @@ use Rattle.board.specs.Rows.{kind_number}
 use Rattle.words.specs.Hex.{written_byte, written_u16}
 use Rattle.script.specs.Calls.{Call, kind, size, row, line, reprice_row, reprice_line, clear, load, settle, reopen, cost, path, between, check}
 use Rattle.script.specs.Forms.{longest, two_wide, row_limits, line_limits}
-use Rattle.script.specs.Script.{call, line_parsed}
+use Rattle.script.specs.Script.{call, script_part_of, line_parsed}
 
 -- words, a space before each
 abbrev pub spaced : List (List ℕ) → List ℕ
@@ -89,7 +89,10 @@ Fits (path n) = n ≤ longest
 Fits (between s q) = UpTo two_wide (s ∷ q ∷ [])
 Fits (check ms) = AllByRecursion (λ m. m < 2 ^ 16) ms × (length ms ≤ longest)
 
--- The law of a script: a call within its limits, written as a line, reads back as that call, alone and with any answer behind an arrow.
+-- The laws of a call's line.
 pub record ReadsWritten : Type 0 where
+  -- a call within its limits, written as a line, reads back as that call, alone and with any answer behind an arrow
   pub alone : (c : Call) → Fits c → line_parsed (written c) ≡ call c
   pub answered : (c : Call) → Fits c → (answer : List ℕ) → line_parsed (written c ++ (codes " -> " ++ answer)) ≡ call c
+  -- a line that says a call, however it is spelled, says it again as it is printed: its part before the arrow, and any answer
+  pub again : (line answer : List ℕ) (c : Call) → line_parsed line ≡ call c → line_parsed (script_part_of line ++ (codes " -> " ++ answer)) ≡ call c

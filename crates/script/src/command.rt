@@ -1,7 +1,7 @@
 // The calls that a script makes.
 ghost use Rattle.std.specs.Prelude.{◌≡◌};
 ghost use Rattle.std.specs.Option.{option_map};
-ghost use Rattle.script.specs.Calls.{command_of, made_of, on_board};
+ghost use Rattle.script.specs.Calls.{command_of, without_address, on_board};
 
 use board::{Line, Row};
 use costs::KindName;
@@ -36,7 +36,7 @@ pub enum Command {
 impl Command {
     // The call that it makes on a board; naming a kind makes none.
     pub(crate) fn call(&self) -> Option<Call<'_>>
-        ensures { option_map made_of result ≡ on_board (command_of self.now) }
+        ensures { option_map without_address result ≡ on_board (command_of self.now) }
     {
         let call = match self {
             Command::Kind(_) => return None,

@@ -1,6 +1,14 @@
 // Running a script, line by line.
-ghost use Rattle.std.specs.Prelude.{◌≡◌, ◌++◌, OnOk, IfOk};
+ghost use Rattle.std.specs.Prelude.{◌≡◌, ◌++◌, Some, OnOk, IfOk, IfSome};
+ghost use Rattle.std.specs.Option.{option_map};
+ghost use Rattle.board.specs.Content.{new};
+ghost use Rattle.file.specs.States.{draft};
+ghost use Rattle.file.specs.Histories.{state_of};
+ghost use Rattle.script.specs.Calls.{command_of, on_board};
 ghost use Rattle.script.specs.Script.{script_part_of, line_parsed, said};
+ghost use Rattle.script.specs.Printing.{buffer_of, made_text, made_state, board_text, board_after, call_text, call_after, printed, PrintsAnswers};
+ghost use Rattle.script.specs.Worked.{WorkedScript};
+ghost use Rattle.script.specs.Sessions.{standing, Made, SessionMade};
 
 use crate::command::Command;
 use crate::error::ParseError;
@@ -8,7 +16,7 @@ use crate::script::{parse, script_part};
 use crate::telling::push_answer;
 use board::Draft;
 use costs::{Kind, KindName, Points, Rank, Severity};
-use file::{Board, step};
+use file::{Answer, Board, step};
 use std::alloc::{AllocError, Global};
 use words::{Newline, pieces};
 
@@ -22,7 +30,10 @@ enum Session {
 }
 
 // A new board of the kind.
-fn begun(kind: KindName) -> Session {
+fn new_session(kind: KindName) -> Session
+    ensures stands { standing result ≡ record { kind = kind; state = draft new } }
+    ensures made { SessionMade result }
+{
     match kind {
         KindName::Points => Session::Points(Board::Drafted(Draft::new())),
         KindName::Severity => Session::Severity(Board::Drafted(Draft::new())),
@@ -31,21 +42,29 @@ fn begun(kind: KindName) -> Session {
 }
 
 // The buffer beside the command: for path one of the length that it names, filled with aaaa.
-fn buffer_of(heap: Global, command: &Command) -> Result<Vec<u16>, AllocError> {
+fn buffer_of(heap: Global, command: &Command) -> Result<Vec<u16>, AllocError>
+    ensures { IfOk result (λ v. v.items ≡ buffer_of (command_of command.now)) }
+{
     let length = match command {
         Command::Path(length) => *length,
         _ => 0,
     };
-    Ok(vec![in heap; 0xaaaa; length]?)
+    vec![in heap; 0xaaaa; length]
 }
 
 // One call on a board: adds its answer, and gives the board after it.
-fn called<K: Kind>(
+fn call_board<K: Kind>(
     out: &mut Vec<u8>,
     board: Board<K>,
     command: &Command,
-) -> Result<Board<K>, AllocError> {
+) -> Result<Board<K>, AllocError>
+    requires made { Made K.meaning board }
+    ensures text { OnOk result (out.new.items ≡ out.old.items ++ made_text K.meaning (state_of board) (on_board (command_of command.now)) (buffer_of (command_of command.now))) }
+    ensures after { IfOk result (λ b. state_of b ≡ made_state K.meaning (state_of board) (on_board (command_of command.now))) }
+    ensures made { IfOk result (λ b. Made K.meaning b) }
+{
     let mut buffer = buffer_of(*out.allocator(), command)?;
+    // (naming a kind makes no call, and does not come here)
     let Some(call) = command.call() else {
         return Ok(board);
     };
@@ -54,26 +73,50 @@ fn called<K: Kind>(
     Ok(next)
 }
 
+// One call on the board that there is.
+fn call_session(
+    out: &mut Vec<u8>,
+    session: Session,
+    command: &Command,
+) -> Result<Session, AllocError>
+    requires made { SessionMade session }
+    ensures text { OnOk result (out.new.items ≡ out.old.items ++ board_text (Some (standing session)) (command_of command.now)) }
+    ensures after { IfOk result (λ s. Some (standing s) ≡ board_after (Some (standing session)) (command_of command.now)) }
+    ensures made { IfOk result (λ s. SessionMade s) }
+{
+    let next = match session {
+        Session::Points(board) => Session::Points(call_board(out, board, command)?),
+        Session::Severity(board) => Session::Severity(call_board(out, board, command)?),
+        Session::Rank(board) => Session::Rank(call_board(out, board, command)?),
+    };
+    Ok(next)
+}
+
 // A command of the script: a new board, or one call on the board that there is, if any.
-fn obeyed(
+fn obey(
     out: &mut Vec<u8>,
     session: Option<Session>,
     command: &Command,
-) -> Result<Option<Session>, AllocError> {
+) -> Result<Option<Session>, AllocError>
+    requires made { IfSome session SessionMade }
+    ensures text { OnOk result (out.new.items ≡ out.old.items ++ call_text (option_map standing session) (command_of command.now)) }
+    ensures after { IfOk result (λ s. option_map standing s ≡ call_after (option_map standing session) (command_of command.now)) }
+    ensures made { IfOk result (λ s. IfSome s SessionMade) }
+{
     if let Command::Kind(kind) = command {
-        return Ok(Some(begun(*kind)));
+        return Ok(Some(new_session(*kind)));
     }
     out.extend_from_slice(b" -> ")?;
-    let next = match session {
+    match session {
         None => {
-            out.extend_from_slice(b"not taken")?;
-            return Ok(None);
+            push_answer(out, Answer::NotTaken, &[])?;
+            Ok(None)
         }
-        Some(Session::Points(board)) => Session::Points(called(out, board, command)?),
-        Some(Session::Severity(board)) => Session::Severity(called(out, board, command)?),
-        Some(Session::Rank(board)) => Session::Rank(called(out, board, command)?),
-    };
-    Ok(Some(next))
+        Some(session) => {
+            let next = call_session(out, session, command)?;
+            Ok(Some(next))
+        }
+    }
 }
 
 // What a line of the script says.
@@ -104,7 +147,12 @@ fn push_script_part(out: &mut Vec<u8>, line: &[u8]) -> Result<(), AllocError>
 }
 
 // Runs the script, and gives what is printed: each line with its answer, without comments and empty lines.
-pub fn run(heap: Global, input: &[u8]) -> Result<Vec<u8>, AllocError> {
+#[tactic(auto, using(crate::proofs::Answered::prints_answers, crate::proofs::Working::worked))]
+pub fn run(heap: Global, input: &[u8]) -> Result<Vec<u8>, AllocError>
+    ensures lines { IfOk result (λ v. v.items ≡ printed input.now) }
+    ensures prints_answers { PrintsAnswers }
+    ensures worked { WorkedScript }
+{
     let lines = pieces::<Newline>(heap, input)?;
     let mut out = Vec::new(heap);
     let mut session = None;
@@ -113,7 +161,7 @@ pub fn run(heap: Global, input: &[u8]) -> Result<Vec<u8>, AllocError> {
             Said::Nothing => continue,
             Said::Call(command) => {
                 push_script_part(&mut out, line)?;
-                session = obeyed(&mut out, session, &command)?;
+                session = obey(&mut out, session, &command)?;
             }
             Said::Unreadable => {
                 push_script_part(&mut out, line)?;

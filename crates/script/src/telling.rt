@@ -1,4 +1,11 @@
 // What is printed of a call's answer.
+ghost use Rattle.std.specs.Prelude.{◌≡◌, ◌++◌, OnOk, IfSome};
+ghost use Rattle.std.specs.List.{flat_map};
+ghost use Rattle.file.specs.Parts.{piece};
+ghost use Rattle.file.specs.Told.{heard};
+ghost use Rattle.words.specs.Hex.{written_byte};
+ghost use Rattle.script.specs.Telling.{result_text, spaced_number, note_text, buffer_text, told_text};
+
 use file::{Answer, Note};
 use std::alloc::AllocError;
 use std::fmt::Display;
@@ -8,7 +15,9 @@ use words::{push_hex_byte, push_hex_u16};
 const SHOWN: usize = 40;
 
 // Adds the value's own text.
-fn push_text<T: Display>(out: &mut Vec<u8>, value: &T) -> Result<(), AllocError> {
+fn push_text<T: Display>(out: &mut Vec<u8>, value: &T) -> Result<(), AllocError>
+    ensures { OnOk result (IfSome (T.output value.now) (λ text. out.new.items ≡ out.old.items ++ text)) }
+{
     let text = format!(in *out.allocator(); "{value}")?;
     out.extend_from_slice(text.as_bytes())
 }
@@ -17,33 +26,53 @@ fn push_text<T: Display>(out: &mut Vec<u8>, value: &T) -> Result<(), AllocError>
 fn push_result<T: Display + Drop, E: Display + Drop>(
     out: &mut Vec<u8>,
     answer: Result<T, E>,
-) -> Result<(), AllocError> {
+) -> Result<(), AllocError>
+    ensures { OnOk result (IfSome (result_text T.output E.output answer) (λ text. out.new.items ≡ out.old.items ++ text)) }
+{
     match answer {
         Ok(value) => push_text(out, &value),
         Err(refusal) => push_text(out, &refusal),
     }
 }
 
-// Adds the whole buffer, where it is not too long to be shown.
-fn push_buffer(out: &mut Vec<u8>, buffer: &[u16]) -> Result<(), AllocError> {
-    if buffer.len() > SHOWN {
-        return Ok(());
-    }
-    for number in buffer {
+// Adds the numbers, a space before each.
+fn push_numbers(out: &mut Vec<u8>, numbers: &[u16]) -> Result<(), AllocError>
+    ensures { OnOk result (out.new.items ≡ out.old.items ++ flat_map spaced_number numbers.now) }
+{
+    for number in numbers {
         out.extend_from_slice(b" ")?;
         push_hex_u16(out, *number)?;
     }
     Ok(())
 }
 
-// Adds a note: its place and its bytes.
-fn push_note(out: &mut Vec<u8>, note: Note<'_>) -> Result<(), AllocError> {
-    let text = format!(in *out.allocator(); "note {} ", note.place)?;
-    out.extend_from_slice(text.as_bytes())?;
-    for byte in note.bytes {
+// Adds the whole buffer, where it is not too long to be shown.
+fn push_buffer(out: &mut Vec<u8>, buffer: &[u16]) -> Result<(), AllocError>
+    ensures { OnOk result (out.new.items ≡ out.old.items ++ buffer_text buffer.now) }
+{
+    if buffer.len() > SHOWN {
+        return Ok(());
+    }
+    push_numbers(out, buffer)
+}
+
+// Adds the bytes.
+fn push_bytes(out: &mut Vec<u8>, bytes: &[u8]) -> Result<(), AllocError>
+    ensures { OnOk result (out.new.items ≡ out.old.items ++ flat_map written_byte bytes.now) }
+{
+    for byte in bytes {
         push_hex_byte(out, *byte)?;
     }
     Ok(())
+}
+
+// Adds a note: its place and its bytes.
+fn push_note(out: &mut Vec<u8>, note: Note<'_>) -> Result<(), AllocError>
+    ensures { OnOk result (out.new.items ≡ out.old.items ++ note_text (piece note.entry)) }
+{
+    let text = format!(in *out.allocator(); "note {} ", note.place)?;
+    out.extend_from_slice(text.as_bytes())?;
+    push_bytes(out, note.bytes)
 }
 
 // Adds the answer of a call; `buffer` is the one that stood beside it.
@@ -51,7 +80,9 @@ pub(crate) fn push_answer(
     out: &mut Vec<u8>,
     answer: Answer<'_>,
     buffer: &[u16],
-) -> Result<(), AllocError> {
+) -> Result<(), AllocError>
+    ensures { OnOk result (out.new.items ≡ out.old.items ++ told_text (heard answer.entry) buffer.now) }
+{
     match answer {
         Answer::NotTaken => out.extend_from_slice(b"not taken"),
         Answer::Settled | Answer::Reopened => out.extend_from_slice(b"ok"),

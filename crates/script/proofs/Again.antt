@@ -1,0 +1,256 @@
+-- A line that says a call has no '>', so the call is said again where an answer stands behind it.
+use Rattle.std.proofs.Common.{◌≡◌, ℕ, Bool, true, false, cond, List, [], ◌∷◌, ◌++◌, Some, None, codes, Option, sym, refl, ap, ◌∙◌, subst, ⊎_elim, arith}
+use Rattle.std.specs.List.{AllByRecursion}
+use Rattle.std.specs.Option.{option_map, option_and_then}
+use Rattle.std.proofs.lemmas.Option.{cond_some}
+use Rattle.std.proofs.lemmas.Bool.{cases_Bool, cond-true, cond-false, and_parts}
+use Rattle.std.proofs.lemmas.Bool.Decides.{nat_tests}
+use Rattle.std.proofs.lemmas.Slice.Eq.{bytes_eq-Decides}
+use Rattle.costs.specs.Names.{named_by}
+use Rattle.words.specs.Hex.{hex_value, then_digit, byte_before, bytes_of, hex_on, hex_number_of}
+use Rattle.words.specs.Numbers.{all_digits, is_number, number_of, number_before, numbers_of}
+use Rattle.words.specs.Pieces.{spacing, ended, pieces_after, pieces_of, NoSeparator}
+use Rattle.words.specs.Splits.{split_of}
+use Rattle.words.proofs.Cutting.{uncut_append}
+use Rattle.words.proofs.Splitting.{rejoins}
+use Rattle.script.specs.Calls.{Call, kind}
+use Rattle.script.specs.declared.check.Run.{Run}
+use Rattle.script.specs.declared.name.Name.{Name}
+use Rattle.script.specs.declared.name.Name.TheVariants as name
+use Rattle.script.specs.Forms.{alone_call, kind_call, two_wide, row_limits, row_from, row_call, line_limits, load_call, longest}
+use Rattle.script.specs.Names.{spells, name_of}
+use Rattle.script.specs.Runs.{run_of, run_from, split_run, run_before, runs_of, not_too_long, moves_of, check_call}
+use Rattle.script.specs.Script.{call, skip, call_of, call_parsed, name_parsed, words_parsed, is_comment, line_parsed, script_part_of}
+use Rattle.script.proofs.Plain.{point, reserved, fewer, no_point, is_plain, plain_text, free_digits}
+use Rattle.script.proofs.Arrows.{line_answered}
+
+-- words, and bytes, with no '>'
+abbrev Free : List ℕ → Type 0
+Free w = NoSeparator point w
+
+abbrev AllFree : List (List ℕ) → Type 0
+AllFree ws = AllByRecursion Free ws
+
+-- a line is free where its words are
+ended_free : (run : List ℕ) (ps : List (List ℕ)) → AllFree (ended run ps) → Free run × AllFree ps
+ended_free [] ps all = (tt, all)
+ended_free (b ∷ run) ps all = (all.0, all.1)
+
+spacing_free : (b : ℕ) → spacing b ≡ true → point b ≡ false
+spacing_free b s = grind (arith, nat_tests)
+
+parts_free : (xs ys : List ℕ) → Free (xs ++ ys) → Free xs × Free ys
+parts_free [] ys free = (tt, free)
+parts_free (x ∷ xs) ys free = let p = parts_free xs ys free.1 in ((free.0, p.0), p.1)
+
+pieces_free : (run bs : List ℕ) → AllFree (pieces_after spacing run bs) → Free run × Free bs
+pieces_free run [] all = ((ended_free run [] all).0, tt)
+pieces_free run (b ∷ bs) all = ⊎_elim
+    (λ (s : spacing b ≡ true).
+    let e = ended_free run _ (subst AllFree (cond-true _ _ _ s) all) in
+    (e.0, (spacing_free b s, (pieces_free [] bs e.1).1)))
+    (λ (n : spacing b ≡ false).
+    let p = pieces_free (run ++ (b ∷ [])) bs (subst AllFree (cond-false _ _ _ n) all) in
+    let q = parts_free run (b ∷ []) p.0 in
+    (q.0, (q.1.0, p.1)))
+    (cases_Bool (spacing b))
+
+-- decimal numbers
+number_free : (limit : ℕ) (w : List ℕ) (n : ℕ) → number_of limit w ≡ Some n → Free w
+unfolding number_of
+number_free limit w n e =
+    let is = (cond_some (is_number limit w) _ n e).0 in
+    fewer reserved point no_point w (free_digits w (and_parts (all_digits w) _ (and_parts _ _ is).1).0)
+
+before_some : (o : Option ℕ) (p : Option (List ℕ)) (ns : List ℕ) → number_before o p ≡ Some ns → (n : ℕ) × (o ≡ Some n) × (ks : List ℕ) × (p ≡ Some ks)
+before_some None p ns e = absurd cc
+before_some (Some n) None ns e = absurd cc
+before_some (Some n) (Some ks) ns e = (n, refl, ks, refl)
+
+numbers_free : (limits : List ℕ) (ws : List (List ℕ)) (ns : List ℕ) → numbers_of limits ws ≡ Some ns → AllFree ws
+numbers_free [] [] ns e = tt
+numbers_free [] (w ∷ ws) ns e = absurd cc
+numbers_free (m ∷ ms) [] ns e = absurd cc
+numbers_free (m ∷ ms) (w ∷ ws) ns e = let p = before_some _ _ ns e in (number_free m w p.0 p.1, numbers_free ms ws p.2 p.3)
+
+-- hexadecimal numbers
+hex_free : (b v : ℕ) → hex_value b ≡ Some v → point b ≡ false
+hex_free b v e = ⊎_elim
+    (λ (t : point b ≡ true). absurd (not_hex b t v e))
+    (λ (f : point b ≡ false). f)
+    (cases_Bool (point b))
+  where
+    not_hex : (b : ℕ) → point b ≡ true → (v : ℕ) → hex_value b ≡ Some v → ⊥
+    not_hex b t v e = let is : b ≡ 62 = grind (arith, nat_tests) in let z : hex_value 62 ≡ Some v = ap hex_value (sym is) ∙ e in absurd cc
+
+then_some : (o d : Option ℕ) (n : ℕ) → then_digit o d ≡ Some n → (k : ℕ) × (o ≡ Some k) × (v : ℕ) × (d ≡ Some v)
+then_some None d n e = absurd cc
+then_some (Some k) None n e = absurd cc
+then_some (Some k) (Some v) n e = (k, refl, v, refl)
+
+hex_on_free : (o : Option ℕ) (w : List ℕ) (n : ℕ) → hex_on o w ≡ Some n → Free w × ((k : ℕ) × (o ≡ Some k))
+hex_on_free o [] n e = (tt, (n, e))
+hex_on_free o (b ∷ w) n e =
+    let r = hex_on_free (then_digit o (hex_value b)) w n e in
+    let s = then_some o (hex_value b) r.1.0 r.1.1 in
+    ((hex_free b s.2 s.3, r.0), (s.0, s.1))
+
+hex_number_free : (w : List ℕ) (n : ℕ) → hex_number_of w ≡ Some n → Free w
+unfolding hex_number_of
+hex_number_free w n e = (hex_on_free (Some 0) w n (on _ _ e)).0
+  where
+    on : (b : Bool) (o : Option ℕ) → cond b o None ≡ Some n → o ≡ Some n
+    on true o h = h
+    on false o h = absurd cc
+
+byte_some : (o : Option ℕ) (p : Option (List ℕ)) (bs : List ℕ) → byte_before o p ≡ Some bs → (b : ℕ) × (o ≡ Some b) × (cs : List ℕ) × (p ≡ Some cs)
+byte_some None p bs e = absurd cc
+byte_some (Some b) None bs e = absurd cc
+byte_some (Some b) (Some cs) bs e = (b, refl, cs, refl)
+
+bytes_free : (w bs : List ℕ) → bytes_of w ≡ Some bs → Free w
+bytes_free [] bs e = tt
+bytes_free (a ∷ []) bs e = absurd cc
+bytes_free (a ∷ b ∷ w) bs e =
+    let p = byte_some _ _ bs e in
+    let s = then_some (hex_value a) (hex_value b) p.0 p.1 in
+    (hex_free a s.0 s.1, (hex_free b s.2 s.3, bytes_free w p.2 p.3))
+
+-- the words of check
+run_some : (o p : Option ℕ) (r : Run) → run_from o p ≡ Some r → (n : ℕ) × (o ≡ Some n) × (k : ℕ) × (p ≡ Some k)
+run_some None p r e = absurd cc
+run_some (Some n) None r e = absurd cc
+run_some (Some n) (Some k) r e = (n, refl, k, refl)
+
+run_free : (w : List ℕ) (r : Run) → run_of w ≡ Some r → Free w
+run_free w r e = by (split_of (codes "*") w) refl e
+  where
+    by : (o : Option (List ℕ × List ℕ)) → split_of (codes "*") w ≡ o → split_run w o ≡ Some r → Free w
+    by None at h = let s = run_some _ _ r h in hex_number_free w s.0 s.1
+    by (Some p) at h =
+        let s = run_some _ _ r h in
+        subst Free (sym (rejoins (codes "*") w p.0 p.1 at)) (uncut_append point p.0 (codes "*" ++ p.1) (hex_number_free p.0 s.0 s.1) (refl, number_free _ p.1 s.2 s.3))
+
+runs_some : (o : Option Run) (p : Option (List ℕ)) (ms : List ℕ) → run_before o p ≡ Some ms → (r : Run) × (o ≡ Some r) × (ks : List ℕ) × (p ≡ Some ks)
+runs_some None p ms e = absurd cc
+runs_some (Some r) None ms e = absurd cc
+runs_some (Some r) (Some ks) ms e = (r, refl, ks, refl)
+
+runs_free : (ws : List (List ℕ)) (ms : List ℕ) → runs_of ws ≡ Some ms → AllFree ws
+runs_free [] ms e = tt
+runs_free (w ∷ ws) ms e = let s = runs_some (run_of w) (runs_of ws) ms e in (run_free w s.0 s.1, runs_free ws s.2 s.3)
+
+-- the words after a name
+mapped : {A B : Type 0} (f : A → B) (o : Option A) (y : B) → option_map f o ≡ Some y → (x : A) × (o ≡ Some x)
+mapped f None y e = absurd cc
+mapped f (Some x) y e = (x, refl)
+
+chained : {A B : Type 0} (f : A → Option B) (o : Option A) (y : B) → option_and_then f o ≡ Some y → (x : A) × (o ≡ Some x)
+chained f None y e = absurd cc
+chained f (Some x) y e = (x, refl)
+
+short_list : (o : Option (List ℕ)) (ms : List ℕ) → not_too_long o ≡ Some ms → (ks : List ℕ) × (o ≡ Some ks)
+short_list None ms e = absurd cc
+short_list (Some ks) ms e = (ks, refl)
+
+numbered_free : {B : Type 0} (f : List ℕ → B) (limits : List ℕ) (ws : List (List ℕ)) (y : B) → option_map f (numbers_of limits ws) ≡ Some y → AllFree ws
+numbered_free f limits ws y e = let n = mapped f (numbers_of limits ws) y e in numbers_free limits ws n.0 n.1
+
+alone_free : (c : Call) (ws : List (List ℕ)) (y : Call) → alone_call c ws ≡ Some y → AllFree ws
+alone_free c [] y e = tt
+alone_free c (w ∷ ws) y e = absurd cc
+
+letter_free : (l : ℕ) (y : Call) → option_map kind (named_by l) ≡ Some y → point l ≡ false
+letter_free l y e = ⊎_elim
+    (λ (t : point l ≡ true). let is : l ≡ 62 = grind (arith, nat_tests) in let z : option_map kind (named_by 62) ≡ Some y = ap (λ (n : ℕ). option_map kind (named_by n)) (sym is) ∙ e in absurd cc)
+    (λ (f : point l ≡ false). f)
+    (cases_Bool (point l))
+
+kind_free : (ws : List (List ℕ)) (y : Call) → kind_call ws ≡ Some y → AllFree ws
+kind_free [] y e = absurd cc
+kind_free ([] ∷ []) y e = absurd cc
+kind_free ((l ∷ []) ∷ []) y e = ((letter_free l y e, tt), tt)
+kind_free ((l ∷ m ∷ ls) ∷ []) y e = absurd cc
+kind_free (w ∷ v ∷ ws) y e = absurd cc
+
+file_free : (ws : List (List ℕ)) (y : Call) → load_call ws ≡ Some y → AllFree ws
+file_free [] y e = tt
+file_free (w ∷ []) y e = let b = mapped _ (bytes_of w) y e in (bytes_free w b.0 b.1, tt)
+file_free (w ∷ v ∷ ws) y e = absurd cc
+
+rows_free : (ws : List (List ℕ)) (y : Call) → row_call ws ≡ Some y → AllFree ws
+rows_free ws y e = let n = chained row_from (numbers_of row_limits ws) y e in numbers_free row_limits ws n.0 n.1
+
+moves_free : (ws : List (List ℕ)) (y : Call) → check_call ws ≡ Some y → AllFree ws
+moves_free ws y e =
+    let m = mapped _ (moves_of ws) y e in
+    let r = short_list (runs_of ws) m.0 m.1 in
+    runs_free ws r.0 r.1
+
+call_free : (n : Name) (ws : List (List ℕ)) (y : Call) → call_of n ws ≡ Some y → AllFree ws
+call_free name.Kind ws y e = kind_free ws y e
+call_free name.Size ws y e = numbered_free _ two_wide ws y e
+call_free name.Row ws y e = rows_free ws y e
+call_free name.Line ws y e = numbered_free _ line_limits ws y e
+call_free name.RepriceRow ws y e = numbered_free _ two_wide ws y e
+call_free name.RepriceLine ws y e = numbered_free _ two_wide ws y e
+call_free name.Clear ws y e = alone_free _ ws y e
+call_free name.Load ws y e = file_free ws y e
+call_free name.Settle ws y e = alone_free _ ws y e
+call_free name.Reopen ws y e = alone_free _ ws y e
+call_free name.Cost ws y e = alone_free _ ws y e
+call_free name.Path ws y e = numbered_free _ (longest ∷ []) ws y e
+call_free name.Between ws y e = numbered_free _ two_wide ws y e
+call_free name.Check ws y e = moves_free ws y e
+
+-- a name
+named_free : (text w : List ℕ) → Free text → (rest : Option Name) (n m : Name) → (rest ≡ Some m → Free w) → cond (spells text w) (Some n) rest ≡ Some m → Free w
+unfolding spells
+named_free text w free rest n m later e = ⊎_elim
+    (λ (t : spells text w ≡ true). subst Free (sym ((bytes_eq-Decides w text).0 t)) free)
+    (λ (f : spells text w ≡ false). later (sym (cond-false _ (Some n) rest f) ∙ e))
+    (cases_Bool (spells text w))
+
+text_free : (text : List ℕ) → is_plain text ≡ true → Free text
+text_free text plain = fewer reserved point no_point text (plain_text text plain).1
+
+name_free : (w : List ℕ) (n : Name) → name_of w ≡ Some n → Free w
+name_free w n e =
+    named_free (codes "kind") w (text_free (codes "kind") refl) _ _ n
+    (named_free (codes "size") w (text_free (codes "size") refl) _ _ n
+    (named_free (codes "row") w (text_free (codes "row") refl) _ _ n
+    (named_free (codes "line") w (text_free (codes "line") refl) _ _ n
+    (named_free (codes "reprice-row") w (text_free (codes "reprice-row") refl) _ _ n
+    (named_free (codes "reprice-line") w (text_free (codes "reprice-line") refl) _ _ n
+    (named_free (codes "clear") w (text_free (codes "clear") refl) _ _ n
+    (named_free (codes "load") w (text_free (codes "load") refl) _ _ n
+    (named_free (codes "settle") w (text_free (codes "settle") refl) _ _ n
+    (named_free (codes "reopen") w (text_free (codes "reopen") refl) _ _ n
+    (named_free (codes "cost") w (text_free (codes "cost") refl) _ _ n
+    (named_free (codes "path") w (text_free (codes "path") refl) _ _ n
+    (named_free (codes "between") w (text_free (codes "between") refl) _ _ n
+    (named_free (codes "check") w (text_free (codes "check") refl) _ _ n
+    (λ e. absurd cc)))))))))))))) e
+
+-- the words of a line that says a call
+module _ (w : List ℕ) (ws : List (List ℕ)) (c : Call) where
+  said_free : (n : Name) → name_of w ≡ Some n → (o : Option Call) → call_of n ws ≡ o → call_parsed o ≡ call c → AllFree (w ∷ ws)
+  said_free n named None at e = absurd cc
+  said_free n named (Some y) at e = (name_free w n named, call_free n ws y at)
+
+  named_words : (o : Option Name) → name_of w ≡ o → name_parsed o ws ≡ call c → AllFree (w ∷ ws)
+  named_words None named e = absurd cc
+  named_words (Some n) named e = said_free n named (call_of n ws) refl e
+
+  first_words : (b : Bool) → cond b skip (name_parsed (name_of w) ws) ≡ call c → AllFree (w ∷ ws)
+  first_words true e = absurd cc
+  first_words false e = named_words (name_of w) refl e
+
+words_free : (ws : List (List ℕ)) (c : Call) → words_parsed ws ≡ call c → AllFree ws
+words_free [] c e = absurd cc
+words_free (w ∷ ws) c e = first_words w ws c (is_comment w) e
+
+pub said_again : (line answer : List ℕ) (c : Call) → line_parsed line ≡ call c → line_parsed (script_part_of line ++ (codes " -> " ++ answer)) ≡ call c
+said_again line answer c e =
+    let part = script_part_of line in
+    line_answered part answer (pieces_free [] part (words_free (pieces_of spacing part) c e)).1 ∙ e

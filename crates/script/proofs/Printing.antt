@@ -1,0 +1,93 @@
+-- What a call on a board prints, and what lines print one after another.
+use Rattle.std.proofs.Common.{◌≡◌, ℕ, List, ◌++◌, length, take, drop, Some, codes, Option, refl, ap, ◌∙◌, append-nil, arith}
+use Rattle.std.proofs.lemmas.List.{drop_all, take_all}
+use Rattle.costs.specs.Meaning.{Meaning}
+use Rattle.board.specs.Settling.{Record}
+use Rattle.file.specs.declared.call.Call.{Call as BoardCall}
+use Rattle.file.specs.declared.call.Call.TheVariants as board
+use Rattle.file.specs.States.{State, draft, settled}
+use Rattle.file.specs.Told.{step_answer, step_buffer}
+use Rattle.file.specs.Histories.{defined_records}
+use Rattle.costs.specs.declared.kind_name.KindName.{KindName}
+use Rattle.script.specs.declared.command.Command.{Command}
+use Rattle.script.specs.declared.command.Command.TheVariants.{Kind, Size, AddRow, AddLine, RepriceRow, RepriceLine, ClearLines, Load, Settle, Reopen, Cost, Path, Between, Check}
+use Rattle.script.specs.Calls.{Call, kind, size, row, line, reprice_row, reprice_line, clear, load, settle, reopen, cost, path, between, check, command_of, without_address, on_board}
+use Rattle.script.specs.Telling.{told_text}
+use Rattle.script.specs.Printing.{Standing, made_text, board_text, board_after, call_text, call_after}
+
+-- where a call's bytes or moves lie changes nothing
+same_text : (m : Meaning) (s : State) (log : List Record) (x : BoardCall) (buffer : List ℕ) → told_text (step_answer m s log x buffer) (step_buffer m s log x buffer) ≡ told_text (step_answer m s log (without_address x) buffer) (step_buffer m s log (without_address x) buffer)
+same_text m (draft c) log (board.Load bs) buffer = refl
+same_text m (draft c) log (board.Check xs) buffer = refl
+same_text m (draft c) log (board.Size a b) buffer = refl
+same_text m (draft c) log (board.AddRow r) buffer = refl
+same_text m (draft c) log (board.AddLine l) buffer = refl
+same_text m (draft c) log (board.RepriceRow i k) buffer = refl
+same_text m (draft c) log (board.RepriceLine i k) buffer = refl
+same_text m (draft c) log board.ClearLines buffer = refl
+same_text m (draft c) log board.Settle buffer = refl
+same_text m (draft c) log board.Cost buffer = refl
+same_text m (draft c) log board.Path buffer = refl
+same_text m (draft c) log (board.Between s q) buffer = refl
+same_text m (draft c) log board.Reopen buffer = refl
+same_text m (settled c) log (board.Load bs) buffer = refl
+same_text m (settled c) log (board.Check xs) buffer = refl
+same_text m (settled c) log (board.Size a b) buffer = refl
+same_text m (settled c) log (board.AddRow r) buffer = refl
+same_text m (settled c) log (board.AddLine l) buffer = refl
+same_text m (settled c) log (board.RepriceRow i k) buffer = refl
+same_text m (settled c) log (board.RepriceLine i k) buffer = refl
+same_text m (settled c) log board.ClearLines buffer = refl
+same_text m (settled c) log board.Settle buffer = refl
+same_text m (settled c) log board.Cost buffer = refl
+same_text m (settled c) log board.Path buffer = refl
+same_text m (settled c) log (board.Between s q) buffer = refl
+same_text m (settled c) log board.Reopen buffer = refl
+
+-- the text of a call on a board that holds the defined records
+pub answered_so : (m : Meaning) (s : State) (log : List Record) (x : BoardCall) (o : Option BoardCall) (buffer : List ℕ) → log ≡ defined_records m s → Some (without_address x) ≡ o → told_text (step_answer m s log x buffer) (step_buffer m s log x buffer) ≡ made_text m s o buffer
+answered_so m s log x o buffer r e =
+    same_text m s log x buffer
+    ∙ ap (λ (l : List Record). told_text (step_answer m s l (without_address x) buffer) (step_buffer m s l (without_address x) buffer)) r
+    ∙ ap (λ (c : Option BoardCall). made_text m s c buffer) e
+
+-- a vector whose whole slice was written
+pub written_over : (n : ℕ) (xs ys : List ℕ) → n ≡ length ys → length xs ≡ length ys → take n (xs ++ drop (length xs) ys) ≡ xs
+written_over n xs ys h k =
+    ap (λ (l : List ℕ). take n (xs ++ l)) (drop_all (length xs) ys (omega (arith, k)))
+    ∙ ap (take n) (append-nil xs)
+    ∙ take_all n xs (omega (arith, h, k))
+
+-- a call that makes one on a board
+pub board_call : (s : Option Standing) (c : Call) (x : BoardCall) → on_board c ≡ Some x → (call_text s c ≡ codes " -> " ++ board_text s c) × (call_after s c ≡ board_after s c)
+board_call s (kind k) x e = absurd cc
+board_call s (size a b) x e = (refl, refl)
+board_call s (row r) x e = (refl, refl)
+board_call s (line l) x e = (refl, refl)
+board_call s (reprice_row i k) x e = (refl, refl)
+board_call s (reprice_line i k) x e = (refl, refl)
+board_call s clear x e = (refl, refl)
+board_call s (load bs) x e = (refl, refl)
+board_call s settle x e = (refl, refl)
+board_call s reopen x e = (refl, refl)
+board_call s cost x e = (refl, refl)
+board_call s (path n) x e = (refl, refl)
+board_call s (between p q) x e = (refl, refl)
+board_call s (check xs) x e = (refl, refl)
+
+-- a command that names no kind makes a call
+pub made_call : (c : Command) → ((k : KindName) → c ≡ Kind k → ⊥) → (x : BoardCall) × (on_board (command_of c) ≡ Some x)
+made_call (Kind k) other = absurd (other k refl)
+made_call (Size a b) other = (_, refl)
+made_call (AddRow r) other = (_, refl)
+made_call (AddLine l) other = (_, refl)
+made_call (RepriceRow i k) other = (_, refl)
+made_call (RepriceLine i k) other = (_, refl)
+made_call ClearLines other = (_, refl)
+made_call (Load bs) other = (_, refl)
+made_call Settle other = (_, refl)
+made_call Reopen other = (_, refl)
+made_call Cost other = (_, refl)
+made_call (Path n) other = (_, refl)
+made_call (Between p q) other = (_, refl)
+made_call (Check xs) other = (_, refl)
