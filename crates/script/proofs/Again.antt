@@ -1,9 +1,9 @@
 -- A line that says a call has no '>', so the call is said again where an answer stands behind it.
 use Rattle.std.proofs.Common.{◌≡◌, ℕ, Bool, true, false, cond, List, [], ◌∷◌, ◌++◌, Some, None, codes, Option, sym, refl, ap, ◌∙◌, subst, ⊎_elim, arith}
 use Rattle.std.specs.List.{AllByRecursion}
-use Rattle.std.specs.Option.{option_map, option_and_then}
-use Rattle.std.proofs.lemmas.Option.{cond_some}
-use Rattle.std.proofs.lemmas.Bool.{cases_Bool, cond-true, cond-false, and_parts}
+use Rattle.std.specs.Option.{option_map}
+use Rattle.std.proofs.lemmas.Option.{cond_some, option_and_then_some}
+use Rattle.std.proofs.lemmas.Bool.{cases_Bool, eqb-true, cond-true, cond-false, and_parts}
 use Rattle.std.proofs.lemmas.Bool.Decides.{nat_tests}
 use Rattle.std.proofs.lemmas.Slice.Eq.{bytes_eq-Decides}
 use Rattle.costs.specs.Names.{named_by}
@@ -73,15 +73,16 @@ numbers_free [] (w ∷ ws) ns e = absurd cc
 numbers_free (m ∷ ms) [] ns e = absurd cc
 numbers_free (m ∷ ms) (w ∷ ws) ns e = let p = before_some _ _ ns e in (number_free m w p.0 p.1, numbers_free ms ws p.2 p.3)
 
--- hexadecimal numbers
-hex_free : (b v : ℕ) → hex_value b ≡ Some v → point b ≡ false
-hex_free b v e = ⊎_elim
-    (λ (t : point b ≡ true). absurd (not_hex b t v e))
+-- a byte of which something is read that '>' is not
+read_free : {A : Type 0} (read : ℕ → Option A) (b : ℕ) (y : A) → read 62 ≡ None → read b ≡ Some y → point b ≡ false
+read_free read b y none some = ⊎_elim
+    (λ (t : point b ≡ true). let z : None ≡ Some y = sym none ∙ ap read (sym (eqb-true b 62 t)) ∙ some in absurd cc)
     (λ (f : point b ≡ false). f)
     (cases_Bool (point b))
-  where
-    not_hex : (b : ℕ) → point b ≡ true → (v : ℕ) → hex_value b ≡ Some v → ⊥
-    not_hex b t v e = let is : b ≡ 62 = grind (arith, nat_tests) in let z : hex_value 62 ≡ Some v = ap hex_value (sym is) ∙ e in absurd cc
+
+-- hexadecimal numbers
+hex_free : (b v : ℕ) → hex_value b ≡ Some v → point b ≡ false
+hex_free b v e = read_free hex_value b v refl e
 
 then_some : (o d : Option ℕ) (n : ℕ) → then_digit o d ≡ Some n → (k : ℕ) × (o ≡ Some k) × (v : ℕ) × (d ≡ Some v)
 then_some None d n e = absurd cc
@@ -145,10 +146,6 @@ mapped : {A B : Type 0} (f : A → B) (o : Option A) (y : B) → option_map f o 
 mapped f None y e = absurd cc
 mapped f (Some x) y e = (x, refl)
 
-chained : {A B : Type 0} (f : A → Option B) (o : Option A) (y : B) → option_and_then f o ≡ Some y → (x : A) × (o ≡ Some x)
-chained f None y e = absurd cc
-chained f (Some x) y e = (x, refl)
-
 short_list : (o : Option (List ℕ)) (ms : List ℕ) → not_too_long o ≡ Some ms → (ks : List ℕ) × (o ≡ Some ks)
 short_list None ms e = absurd cc
 short_list (Some ks) ms e = (ks, refl)
@@ -161,10 +158,7 @@ alone_free c [] y e = tt
 alone_free c (w ∷ ws) y e = absurd cc
 
 letter_free : (l : ℕ) (y : Call) → option_map kind (named_by l) ≡ Some y → point l ≡ false
-letter_free l y e = ⊎_elim
-    (λ (t : point l ≡ true). let is : l ≡ 62 = grind (arith, nat_tests) in let z : option_map kind (named_by 62) ≡ Some y = ap (λ (n : ℕ). option_map kind (named_by n)) (sym is) ∙ e in absurd cc)
-    (λ (f : point l ≡ false). f)
-    (cases_Bool (point l))
+letter_free l y e = read_free (λ (n : ℕ). option_map kind (named_by n)) l y refl e
 
 kind_free : (ws : List (List ℕ)) (y : Call) → kind_call ws ≡ Some y → AllFree ws
 kind_free [] y e = absurd cc
@@ -179,7 +173,7 @@ file_free (w ∷ []) y e = let b = mapped _ (bytes_of w) y e in (bytes_free w b.
 file_free (w ∷ v ∷ ws) y e = absurd cc
 
 rows_free : (ws : List (List ℕ)) (y : Call) → row_call ws ≡ Some y → AllFree ws
-rows_free ws y e = let n = chained row_from (numbers_of row_limits ws) y e in numbers_free row_limits ws n.0 n.1
+rows_free ws y e = option_and_then_some row_from (numbers_of row_limits ws) y e (λ ns is made. numbers_free row_limits ws ns is)
 
 moves_free : (ws : List (List ℕ)) (y : Call) → check_call ws ≡ Some y → AllFree ws
 moves_free ws y e =

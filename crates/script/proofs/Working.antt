@@ -1,14 +1,16 @@
--- The worked script, computed.
+-- The worked scripts, computed.
 use Rattle.std.proofs.Common.{refl}
 use lib.Utf8.{encode}
 use Rattle.std.specs.Fmt.{digits}
 use Rattle.board.specs.Computing.{settled_log, record_between, best_moments, best_rows, found}
+use Rattle.file.specs.Records.{row_added, line_added, records}
+use Rattle.file.specs.Load.{at_end, from_note, from_lines, from_rows, sized}
 use Rattle.words.specs.Hex.{hex_number_of}
 use Rattle.words.specs.Numbers.{number_of}
 use Rattle.words.specs.Trims.{trimmed_of}
 use Rattle.script.specs.Names.{spells}
-use Rattle.script.specs.Worked.{WorkedScript}
+use Rattle.script.specs.Worked.{WorkedScripts}
 
-pub worked : WorkedScript
-unfolding encode digits settled_log found best_rows best_moments record_between hex_number_of number_of trimmed_of spells
-worked = refl
+pub worked : WorkedScripts
+unfolding encode digits settled_log found best_rows best_moments record_between row_added line_added records at_end from_note from_lines from_rows sized hex_number_of number_of trimmed_of spells
+worked = record { small = refl; each = refl }

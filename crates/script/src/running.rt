@@ -7,7 +7,7 @@ ghost use Rattle.file.specs.Histories.{state_of};
 ghost use Rattle.script.specs.Calls.{command_of, on_board};
 ghost use Rattle.script.specs.Script.{script_part_of, line_parsed, said};
 ghost use Rattle.script.specs.Printing.{buffer_of, made_text, made_state, board_text, board_after, call_text, call_after, printed, PrintsAnswers};
-ghost use Rattle.script.specs.Worked.{WorkedScript};
+ghost use Rattle.script.specs.Worked.{WorkedScripts};
 ghost use Rattle.script.specs.Sessions.{standing, Made, SessionMade};
 
 use crate::command::Command;
@@ -151,7 +151,7 @@ fn push_script_part(out: &mut Vec<u8>, line: &[u8]) -> Result<(), AllocError>
 pub fn run(heap: Global, input: &[u8]) -> Result<Vec<u8>, AllocError>
     ensures lines { IfOk result (λ v. v.items ≡ printed input.now) }
     ensures prints_answers { PrintsAnswers }
-    ensures worked { WorkedScript }
+    ensures worked { WorkedScripts }
 {
     let lines = pieces::<Newline>(heap, input)?;
     let mut out = Vec::new(heap);
