@@ -23,10 +23,10 @@ use Rattle.board.proofs.Naming.{named_goes, goes_named}
 use Rattle.board.proofs.Balance.{body_stack, stack_body}
 use Rattle.board.proofs.Decomposing.{same_head, same_tail, no_cons, cons_no}
 
-err_ok : {A E : Type 0} (e : E) (x : A) → Err e ≡ Ok x → ⊥
+pub err_ok : {A E : Type 0} (e : E) (x : A) → Err e ≡ Ok x → ⊥
 err_ok e x h = cc
 
-ok_in : {A E : Type 0} (x y : A) → ◌≡◌ {A = Result A E} (Ok x) (Ok y) → x ≡ y
+pub ok_in : {A E : Type 0} (x y : A) → ◌≡◌ {A = Result A E} (Ok x) (Ok y) → x ≡ y
 ok_in x y e = cc
 
 pub cond_ok : {A E : Type 0} (b : Bool) (e : E) (o : Result A E) (x : A) → cond b (Err e) o ≡ Ok x → (b ≡ false) × (o ≡ Ok x)
@@ -34,15 +34,15 @@ cond_ok true e o x h = absurd (err_ok e x h)
 cond_ok false e o x h = (refl, h)
 
 -- one move of a check, taken apart
-record Took (m : Meaning) (c : Content) (w : Progress) (x : ℕ) (w' : Progress) : Type 0 where
-  move : Move
-  unpacks : unpacked x ≡ Some move
-  arrival : Arrival
-  goes : Transition m c move w.place arrival.to arrival.cost arrival.effect
-  stacks : bracketed arrival.effect w.unclosed ≡ Ok w'.unclosed
-  place_is : w'.place ≡ arrival.to
-  ended_is : w'.ended ≡ is_end arrival.effect
-  cost_is : w'.cost ≡ m.join w.cost arrival.cost
+pub record Took (m : Meaning) (c : Content) (w : Progress) (x : ℕ) (w' : Progress) : Type 0 where
+  pub move : Move
+  pub unpacks : unpacked x ≡ Some move
+  pub arrival : Arrival
+  pub goes : Transition m c move w.place arrival.to arrival.cost arrival.effect
+  pub stacks : bracketed arrival.effect w.unclosed ≡ Ok w'.unclosed
+  pub place_is : w'.place ≡ arrival.to
+  pub ended_is : w'.ended ≡ is_end arrival.effect
+  pub cost_is : w'.cost ≡ m.join w.cost arrival.cost
 
 module _ (m : Meaning) (c : Content) (w : Progress) (x : ℕ) (w' : Progress) where
   took_arrival : (v : Move) (a : Arrival) (o : Result (List ℕ) Refusal) → unpacked x ≡ Some v → Transition m c v w.place a.to a.cost a.effect → bracketed a.effect w.unclosed ≡ o → arrived m w.cost a o ≡ Ok w' → Took m c w x w'
@@ -71,11 +71,11 @@ module _ (m : Meaning) (c : Content) (w : Progress) (x : ℕ) (w' : Progress) wh
   took_number None u e = absurd (err_ok _ w' e)
   took_number (Some v) u e = took_named v _ u refl e
 
-  took : take_move m c w x ≡ Ok w' → Took m c w x w'
+  pub took : take_move m c w x ≡ Ok w' → Took m c w x w'
   took e = took_number _ refl e
 
 -- after an end row nothing is taken
-ended_named : (m : Meaning) (moments : ℕ) (w : Progress) (o : Option Named) (v : Progress) → w.ended ≡ true → take_named m moments w o ≡ Ok v → ⊥
+pub ended_named : (m : Meaning) (moments : ℕ) (w : Progress) (o : Option Named) (v : Progress) → w.ended ≡ true → take_named m moments w o ≡ Ok v → ⊥
 ended_named m moments w None v t e = err_ok _ v e
 ended_named m moments w (Some n) v t e = both_ways _ (or_parts _ _ (cond_ok _ _ _ _ e).0).0 t
 
@@ -88,7 +88,7 @@ at_end m c w i k (x ∷ xs) t e = absurd (stuck (take_move m c w x) refl e)
     stuck (Err y) f g = err_ok _ k g
 
 -- one effect on the stack
-stack_one : (e : Effect) (es : List Effect) (st st' : List ℕ) → is_end e ≡ false → bracketed e st ≡ Ok st' → stack (e ∷ es) st ≡ stack es st'
+pub stack_one : (e : Effect) (es : List Effect) (st st' : List ℕ) → is_end e ≡ false → bracketed e st ≡ Ok st' → stack (e ∷ es) st ≡ stack es st'
 stack_one Quiet es st st' n b = ap (stack es) (ok_in _ _ b)
 stack_one (Opens a) es st st' n b = deep (ltb (length st) 4096) b
   where
@@ -104,7 +104,7 @@ stack_one (Closes a) es (x ∷ st) st' n b = same (eqb x a) b
 stack_one Ends es st st' n b = absurd (both_ways _ n refl)
 
 -- at most 4,096 stay open
-still_few : (e : Effect) (st st' : List ℕ) → length st ≤ 4096 → bracketed e st ≡ Ok st' → length st' ≤ 4096
+pub still_few : (e : Effect) (st st' : List ℕ) → length st ≤ 4096 → bracketed e st ≡ Ok st' → length st' ≤ 4096
 still_few Quiet st st' h b = let l : length st ≡ length st' = ap length (ok_in _ _ b) in omega arith
 still_few (Opens a) st st' h b = deep (ltb (length st) 4096) refl b
   where
@@ -120,22 +120,26 @@ still_few (Closes a) (x ∷ st) st' h b = same (eqb x a) b
 still_few Ends [] st' h b = let l : 0 ≡ length st' = ap length (ok_in [] st' b) in omega arith
 still_few Ends (x ∷ st) st' h b = absurd (err_ok _ st' b)
 
-shallow_more : (e : Effect) (es : List Effect) (st st' : List ℕ) → is_end e ≡ false → bracketed e st ≡ Ok st' → length st ≤ 4096 → ShallowFrom st' es → ShallowFrom st (e ∷ es)
+pub shallow_none : (st : List ℕ) → length st ≤ 4096 → ShallowFrom st []
+shallow_none st few [] rest o f k = let l : length st ≡ length o = ap length (same_Some _ _ k) in omega arith
+shallow_none st few (x ∷ front) rest o f k = absurd (no_cons _ _ f)
+
+pub shallow_more : (e : Effect) (es : List Effect) (st st' : List ℕ) → is_end e ≡ false → bracketed e st ≡ Ok st' → length st ≤ 4096 → ShallowFrom st' es → ShallowFrom st (e ∷ es)
 shallow_more e es st st' n b few s [] rest o f k = let l : length st ≡ length o = ap length (same_Some _ _ k) in omega arith
 shallow_more e es st st' n b few s (x ∷ front) rest o f k =
     let y : x ≡ e = sym (same_head _ _ _ _ f) in
     s front rest o (same_tail _ _ _ _ f) (sym (stack_one e front st st' n b) ∙ ap (λ z. stack (z ∷ front) st) (sym y) ∙ k)
 
-shallow_less : (e : Effect) (es : List Effect) (st st' : List ℕ) → is_end e ≡ false → bracketed e st ≡ Ok st' → ShallowFrom st (e ∷ es) → ShallowFrom st' es
+pub shallow_less : (e : Effect) (es : List Effect) (st st' : List ℕ) → is_end e ≡ false → bracketed e st ≡ Ok st' → ShallowFrom st (e ∷ es) → ShallowFrom st' es
 shallow_less e es st st' n b s front rest o f k = s (e ∷ front) rest o (ap (λ l. e ∷ l) f) (stack_one e front st st' n b ∙ k)
 
-running_one : (e : Effect) (es : List Effect) → is_end e ≡ false → Running es → Running (e ∷ es)
+pub running_one : (e : Effect) (es : List Effect) → is_end e ≡ false → Running es → Running (e ∷ es)
 running_one Quiet es n r = r
 running_one (Opens a) es n r = r
 running_one (Closes a) es n r = r
 running_one Ends es n r = absurd (both_ways _ n refl)
 
-running_off : (e : Effect) (es : List Effect) → Running (e ∷ es) → (is_end e ≡ false) × Running es
+pub running_off : (e : Effect) (es : List Effect) → Running (e ∷ es) → (is_end e ≡ false) × Running es
 running_off Quiet es r = (refl, r)
 running_off (Opens a) es r = (refl, r)
 running_off (Closes a) es r = (refl, r)
@@ -155,17 +159,17 @@ no_packs : (xs : List ℕ) → map unpacked xs ≡ [] → xs ≡ []
 no_packs [] e = refl
 no_packs (x ∷ xs) e = absurd cc
 
--- one effect of a word that closes what is open
-opened_one : (e : Effect) (es : List Effect) (st : List ℕ) → is_end e ≡ false → stack (e ∷ es) st ≡ Some [] → ShallowFrom st (e ∷ es) → (st' : List ℕ) × (bracketed e st ≡ Ok st')
-opened_one Quiet es st n s d = (st, refl)
-opened_one (Opens a) es st n s d = let z = d (Opens a ∷ []) es (a ∷ st) refl refl in let l : length st < 4096 = omega arith in (a ∷ st, cond-true _ _ _ (lt-ltb _ _ l))
-opened_one (Closes a) es [] n s d = absurd (none-some [] s)
-opened_one (Closes a) es (x ∷ st) n s d = same (eqb x a) s
+-- one effect of a word that the stack takes
+pub opened_one : (e : Effect) (es : List Effect) (st o : List ℕ) → is_end e ≡ false → stack (e ∷ es) st ≡ Some o → ShallowFrom st (e ∷ es) → (st' : List ℕ) × (bracketed e st ≡ Ok st')
+opened_one Quiet es st o n s d = (st, refl)
+opened_one (Opens a) es st o n s d = let z = d (Opens a ∷ []) es (a ∷ st) refl refl in let l : length st < 4096 = omega arith in (a ∷ st, cond-true _ _ _ (lt-ltb _ _ l))
+opened_one (Closes a) es [] o n s d = absurd (none-some o s)
+opened_one (Closes a) es (x ∷ st) o n s d = same (eqb x a) s
   where
-    same : (t : Bool) → cond t (stack es st) None ≡ Some [] → (st' : List ℕ) × (cond t (Ok st) (Err BadBracket) ≡ Ok st')
+    same : (t : Bool) → cond t (stack es st) None ≡ Some o → (st' : List ℕ) × (cond t (Ok st) (Err BadBracket) ≡ Ok st')
     same true f = (st, refl)
-    same false f = absurd (none-some [] f)
-opened_one Ends es st n s d = absurd (both_ways _ n refl)
+    same false f = absurd (none-some o f)
+opened_one Ends es st o n s d = absurd (both_ways _ n refl)
 
 stack_empty : (st : List ℕ) → stack [] st ≡ Some [] → st ≡ []
 stack_empty st e = cc
@@ -203,13 +207,9 @@ module _ {m : Meaning} {c : Content} where
         path = go g stop;
         running = tt;
         closes = ap Some st-is;
-        shallow = none few;
+        shallow = shallow_none w.unclosed few;
         price = sym h ∙ s.cost_is;
       }
-    where
-      none : length w.unclosed ≤ 4096 → (front rest : List Effect) (o : List ℕ) → [] ≡ front ++ rest → stack front w.unclosed ≡ Some o → length o ≤ 4096
-      none few [] rest o f l = let n : length w.unclosed ≡ length o = ap length (same_Some _ _ l) in omega arith
-      none few (y ∷ front) rest o f l = absurd (no_cons _ _ f)
 
   rest_more : (w w' : Progress) (x : ℕ) (xs : List ℕ) (k : ℕ) → (s : Took m c w x w') → w'.ended ≡ false → length w.unclosed ≤ 4096 → Rest m c w'.place w'.unclosed w'.cost xs k → Rest m c w.place w.unclosed w.cost (x ∷ xs) k
   rest_more w w' x xs k s t few r =
@@ -244,7 +244,7 @@ module _ {m : Meaning} {c : Content} where
       first again (Err y) t g = absurd (err_ok _ k g)
 
   -- and back: a transition is taken
-  takes : (x : ℕ) (v : Move) (p q : Place) (k a : ℕ) (e : Effect) (st st' : List ℕ) → unpacked x ≡ Some v → Transition m c v p q k e → bracketed e st ≡ Ok st' → take_move m c (record { place = p; unclosed = st; ended = false; cost = a }) x ≡ Ok (record { place = q; unclosed = st'; ended = is_end e; cost = m.join a k })
+  pub takes : (x : ℕ) (v : Move) (p q : Place) (k a : ℕ) (e : Effect) (st st' : List ℕ) → unpacked x ≡ Some v → Transition m c v p q k e → bracketed e st ≡ Ok st' → take_move m c (record { place = p; unclosed = st; ended = false; cost = a }) x ≡ Ok (record { place = q; unclosed = st'; ended = is_end e; cost = m.join a k })
   takes x v p q k a e st st' u g b =
       let w : Progress = record { place = p; unclosed = st; ended = false; cost = a } in
       let z = goes_named m c v p q k e g in
@@ -278,7 +278,7 @@ module _ {m : Meaning} {c : Content} where
       let u₀ : unpacked x ≡ Some v = cc in
       let u₁ : map unpacked xs ≡ map Some vs = cc in
       let ne = running_off e body run in
-      let o = opened_one e body st ne.0 s d in
+      let o = opened_one e body st [] ne.0 s d in
       let w-is = ap (λ (t : Bool). checked_from m c (record { place = r; unclosed = o.0; ended = t; cost = m.join a k }) (suc i) xs) ne.0 in
       let t = takes x v p r k a e st o.0 u₀ g' o.1 in
       let on = accepted body path (same_tail _ _ _ _ eq) ne.1 o.0 (sym (stack_one e body st o.0 ne.0 o.1) ∙ s) (shallow_less e body st o.0 ne.0 o.1 d) xs u₁ (suc i) (m.join a k) in

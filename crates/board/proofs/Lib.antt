@@ -3,6 +3,9 @@ pub mod Keeps
 pub mod Balance
 pub mod Naming
 pub mod Accepting
+pub mod Walking
+pub mod Refusing
+pub mod Faulting
 pub mod Laws
 pub mod Membership
 pub mod Diagonal

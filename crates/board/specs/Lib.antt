@@ -8,6 +8,7 @@ pub mod Paths
 pub mod Arrivals
 pub mod Packing
 pub mod Checks
+pub mod Faults
 pub mod Settling
 pub mod Computing
 pub mod Ease

@@ -2,6 +2,7 @@
 ghost use Rattle.std.specs.Prelude.{◌≡◌};
 ghost use Rattle.board.specs.Held.{held};
 ghost use Rattle.board.specs.Checks.{check_answer, AcceptsReadings};
+ghost use Rattle.board.specs.Faults.{RefusesFaults};
 
 use crate::check::Fault;
 use crate::checker::Checker;
@@ -14,6 +15,7 @@ impl<K: Kind> Tables<K> {
     pub(crate) fn check(&self, moves: &[u16]) -> Result<u32, Fault>
         ensures answer { result ≡ check_answer K.meaning (held self.now) moves.now }
         ensures readings { AcceptsReadings K.meaning (held self.now) moves.now result }
+        ensures refusals { RefusesFaults K.meaning (held self.now) moves.now result }
     {
         let mut checker = Checker::new::<K>();
         for (index, number) in moves.iter().enumerate() {

@@ -2,6 +2,7 @@
 ghost use Rattle.std.specs.Prelude.{◌≡◌};
 ghost use Rattle.board.specs.Boards.{settled_content, settled_records};
 ghost use Rattle.board.specs.Checks.{check_answer, AcceptsReadings};
+ghost use Rattle.board.specs.Faults.{RefusesFaults};
 ghost use Rattle.board.specs.Paths.{GrammarIsStack};
 ghost use Rattle.board.specs.Promises.{MovesComputed, OneCost};
 ghost use Rattle.board.specs.Questions.{between_answer, cost_answer, path_answer, path_after, CostMeans, PathMeans, BetweenMeans};
@@ -60,6 +61,7 @@ impl<K: Kind> Settled<K> {
     pub fn check(&self, moves: &[u16]) -> Result<u32, Fault>
         ensures answer { result ≡ check_answer K.meaning (settled_content self.now) moves.now }
         ensures readings { AcceptsReadings K.meaning (settled_content self.now) moves.now result }
+        ensures refusals { RefusesFaults K.meaning (settled_content self.now) moves.now result }
         ensures single { OneCost }
         ensures balance { GrammarIsStack }
         ensures moves { MovesComputed }
