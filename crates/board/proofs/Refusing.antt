@@ -19,7 +19,7 @@ use Rattle.board.specs.Moves.{Place}
 use Rattle.board.specs.Arrivals.{timely, starts_then, starts_at, leads}
 use Rattle.board.specs.Packing.{unpacked}
 use Rattle.board.specs.Checks.{bracketed, Progress, start, arrived, take_named, named_by_number, take_move}
-use Rattle.board.specs.Faults.{Underway, Over, GoesFrom, GoesSomewhere, Refuses, bad_move, not_here, not_now, bad_close, bad_end, too_deep}
+use Rattle.board.specs.Faults.{Underway, Over, GoesFrom, GoesSomewhere, Refused, bad_move, not_here, not_now, bad_close, bad_end, too_deep}
 use Rattle.board.proofs.Accepting.{err_ok, accepts}
 use Rattle.board.proofs.Membership.{some_eq}
 use Rattle.board.proofs.Naming.{named_goes, goes_named}
@@ -150,40 +150,40 @@ module _ {m : Meaning} {c : Content} (before : List ℕ) where
 
   module _ (sound : Sound m c) (x : ℕ) where
     -- refused for its brackets
-    by_effect : (e : Refusal) (w : Underway m c before) (a : Effect) → GoesFrom m c x w.reached a → (st : List ℕ) → w.unclosed ≡ st → bracketed a st ≡ Err e → Refuses m c before x e
+    by_effect : (e : Refusal) (w : Underway m c before) (a : Effect) → GoesFrom m c x w.reached a → (st : List ℕ) → w.unclosed ≡ st → bracketed a st ≡ Err e → Refused m c before x e
     by_effect e w Quiet g st s b = absurd (err_ok e st (sym b))
     by_effect e w (Opens a) g st s b = deep (ltb (length st) 4096) refl b
       where
-        deep : (t : Bool) → ltb (length st) 4096 ≡ t → cond t (Ok (a ∷ st)) (Err TooDeep) ≡ Err e → Refuses m c before x e
+        deep : (t : Bool) → ltb (length st) 4096 ≡ t → cond t (Ok (a ∷ st)) (Err TooDeep) ≡ Err e → Refused m c before x e
         deep true t f = absurd (err_ok e _ (sym f))
         deep false t f =
             let few = w.shallow w.effects [] w.unclosed (sym (append-nil _)) w.brackets in
             let many = ltb-false _ _ t in
-            subst (Refuses m c before x) (err_in _ _ f) (too_deep w g (omega (arith, ap length s)))
-    by_effect e w (Closes a) g [] s b = subst (Refuses m c before x) (err_in _ _ b) (bad_close w g (λ rest h. no_one a rest (sym s ∙ h)))
+            subst (Refused m c before x) (err_in _ _ f) (too_deep w g (omega (arith, ap length s)))
+    by_effect e w (Closes a) g [] s b = subst (Refused m c before x) (err_in _ _ b) (bad_close w g (λ rest h. no_one a rest (sym s ∙ h)))
     by_effect e w (Closes a) g (y ∷ st) s b = same (eqb y a) refl b
       where
-        same : (t : Bool) → eqb y a ≡ t → cond t (Ok st) (Err BadBracket) ≡ Err e → Refuses m c before x e
+        same : (t : Bool) → eqb y a ≡ t → cond t (Ok st) (Err BadBracket) ≡ Err e → Refused m c before x e
         same true t f = absurd (err_ok e _ (sym f))
-        same false t f = subst (Refuses m c before x) (err_in _ _ f) (bad_close w g (λ rest h. eqb-false y a t (same_first y a st rest (sym s ∙ h))))
+        same false t f = subst (Refused m c before x) (err_in _ _ f) (bad_close w g (λ rest h. eqb-false y a t (same_first y a st rest (sym s ∙ h))))
     by_effect e w Ends g [] s b = absurd (err_ok e [] (sym b))
-    by_effect e w Ends g (y ∷ st) s b = subst (Refuses m c before x) (err_in _ _ b) (bad_end w g (λ h. no_one y st (sym h ∙ s)))
+    by_effect e w Ends g (y ∷ st) s b = subst (Refused m c before x) (err_in _ _ b) (bad_end w g (λ h. no_one y st (sym h ∙ s)))
 
     -- a move that is not taken is refused for a reason
-    pub refused : (e : Refusal) (u : Progress) → Walk m c (start m) before u → take_move m c u x ≡ Err e → Refuses m c before x e
+    pub refused : (e : Refusal) (u : Progress) → Walk m c (start m) before u → take_move m c u x ≡ Err e → Refused m c before x e
     refused e u walk t = by_name (names c x) refl t
       where
-        by_place : (n : Named) → names c x ≡ Some n → (a b : Bool) → u.ended ≡ a → starts_at c.moments n u.place ≡ b → cond (a || not b) (Err NotNext) (arrived m u.cost (leads m n u.place) (bracketed (leads m n u.place).effect u.unclosed)) ≡ Err e → Refuses m c before x e
-        by_place n i true b ended s f = subst (Refuses m c before x) (err_in _ _ f) (not_now (over walk ended) (goes_somewhere m c x sound n i))
+        by_place : (n : Named) → names c x ≡ Some n → (a b : Bool) → u.ended ≡ a → starts_at c.moments n u.place ≡ b → cond (a || not b) (Err NotNext) (arrived m u.cost (leads m n u.place) (bracketed (leads m n u.place).effect u.unclosed)) ≡ Err e → Refused m c before x e
+        by_place n i true b ended s f = subst (Refused m c before x) (err_in _ _ f) (not_now (over walk ended) (goes_somewhere m c x sound n i))
         by_place n i false true going s f = by_effect e (underway walk going) _ (goes_on m c x n u.place i s) u.unclosed refl (arrived_err m u.cost (leads m n u.place) _ e f)
-        by_place n i false false going s f = subst (Refuses m c before x) (err_in _ _ f) (not_here (underway walk going) (goes_somewhere m c x sound n i) (from_elsewhere m c x n u.place i s))
+        by_place n i false false going s f = subst (Refused m c before x) (err_in _ _ f) (not_here (underway walk going) (goes_somewhere m c x sound n i) (from_elsewhere m c x n u.place i s))
 
-        by_name : (o : Option Named) → names c x ≡ o → take_named m c.moments u o ≡ Err e → Refuses m c before x e
-        by_name None n f = subst (Refuses m c before x) (err_in _ _ f) (bad_move (came u walk) (nowhere m c x n))
+        by_name : (o : Option Named) → names c x ≡ o → take_named m c.moments u o ≡ Err e → Refused m c before x e
+        by_name None n f = subst (Refused m c before x) (err_in _ _ f) (bad_move (came u walk) (nowhere m c x n))
         by_name (Some n) i f = by_place n i _ _ refl refl f
 
     -- and back
-    pub refusing : (e : Refusal) → Refuses m c before x e → (u : Progress) × Walk m c (start m) before u × (take_move m c u x ≡ Err e)
+    pub refusing : (e : Refusal) → Refused m c before x e → (u : Progress) × Walk m c (start m) before u × (take_move m c u x ≡ Err e)
     refusing e (bad_move taken h) = ⊎_elim (λ w. refuse _ (walk_under w).1) (λ o. refuse _ (walk_over o).1) taken
       where
         refuse : (u : Progress) → Walk m c (start m) before u → (u : Progress) × Walk m c (start m) before u × (take_move m c u x ≡ Err BadMove)

@@ -15,7 +15,7 @@ use Rattle.board.specs.Packing.{unpacked}
 use Rattle.board.specs.Checks.{ShallowFrom, PacksReading}
 
 -- The numbers pack a path from place 0 on which no end row comes, each close row closes the bracket opened last of those
--- still open, and never more than 4,096 are open. It reaches a place, with brackets unclosed, the last one first.
+-- still open, and never more than 4,096 are open. It comes to a place with some brackets unclosed, the last one first.
 pub record Underway (m : Meaning) (c : Content) (xs : List ℕ) : Type 0 where
   pub moves : List Move
   pub packs : map unpacked xs ≡ map Some moves
@@ -28,11 +28,11 @@ pub record Underway (m : Meaning) (c : Content) (xs : List ℕ) : Type 0 where
   pub brackets : stack effects [] ≡ Some unclosed
   pub shallow : ShallowFrom [] effects
 
--- the numbers pack a complete reading that never has more than 4,096 brackets open, so an end row came
+-- the numbers pack a complete reading that never has more than 4,096 brackets open: an end row came
 abbrev pub Over : Meaning → Content → List ℕ → Type 0
 Over m c xs = (k : ℕ) × PacksReading m c xs k
 
--- The number packs a move that goes on from p, and does e to the brackets.
+-- The number packs a move that goes on from the place p, and does e to the brackets.
 pub record GoesFrom (m : Meaning) (c : Content) (x : ℕ) (p : Place) (e : Effect) : Type 0 where
   pub move : Move
   pub packs : unpacked x ≡ Some move
@@ -44,26 +44,26 @@ pub record GoesFrom (m : Meaning) (c : Content) (x : ℕ) (p : Place) (e : Effec
 abbrev pub GoesSomewhere : Meaning → Content → ℕ → Type 0
 GoesSomewhere m c x = (p : Place) × (e : Effect) × GoesFrom m c x p e
 
--- Why the number x is refused behind the numbers before it, none of which is at fault:
-pub data Refuses (m : Meaning) (c : Content) (before : List ℕ) (x : ℕ) : Refusal → Type 0 where
-  -- it packs no move that goes on from any place
-  bad_move : Underway m c before ⊎ Over m c before → (GoesSomewhere m c x → ⊥) → Refuses m c before x BadMove
-  -- it goes on from some place, but not from the one reached
-  not_here : (w : Underway m c before) → GoesSomewhere m c x → ((e : Effect) → GoesFrom m c x w.reached e → ⊥) → Refuses m c before x NotNext
-  -- it goes on from some place, but an end row came
-  not_now : Over m c before → GoesSomewhere m c x → Refuses m c before x NotNext
-  -- it closes a bracket that is not the last one open
-  bad_close : {n : ℕ} (w : Underway m c before) → GoesFrom m c x w.reached (Closes n) → ((rest : List ℕ) → w.unclosed ≡ n ∷ rest → ⊥) → Refuses m c before x BadBracket
-  -- it ends while a bracket is open
-  bad_end : (w : Underway m c before) → GoesFrom m c x w.reached Ends → (w.unclosed ≡ [] → ⊥) → Refuses m c before x BadBracket
-  -- it opens a bracket while 4,096 are open
-  too_deep : {n : ℕ} (w : Underway m c before) → GoesFrom m c x w.reached (Opens n) → length w.unclosed ≡ 4096 → Refuses m c before x TooDeep
+-- Why the number x is refused behind those before it, of which none is at fault:
+pub data Refused (m : Meaning) (c : Content) (before : List ℕ) (x : ℕ) : Refusal → Type 0 where
+  -- 15: it packs no move that goes on from any place
+  bad_move : Underway m c before ⊎ Over m c before → (GoesSomewhere m c x → ⊥) → Refused m c before x BadMove
+  -- 16: it goes on from some place, but not from the one reached
+  not_here : (w : Underway m c before) → GoesSomewhere m c x → ((e : Effect) → GoesFrom m c x w.reached e → ⊥) → Refused m c before x NotNext
+  -- 16: it goes on from some place, but an end row came
+  not_now : Over m c before → GoesSomewhere m c x → Refused m c before x NotNext
+  -- 17: it closes a bracket that is not the last one open
+  bad_close : {n : ℕ} (w : Underway m c before) → GoesFrom m c x w.reached (Closes n) → ((rest : List ℕ) → w.unclosed ≡ n ∷ rest → ⊥) → Refused m c before x BadBracket
+  -- 17: it ends while a bracket is open
+  bad_end : (w : Underway m c before) → GoesFrom m c x w.reached Ends → (w.unclosed ≡ [] → ⊥) → Refused m c before x BadBracket
+  -- 18: it opens a bracket while 4,096 are open
+  too_deep : {n : ℕ} (w : Underway m c before) → GoesFrom m c x w.reached (Opens n) → length w.unclosed ≡ 4096 → Refused m c before x TooDeep
 
 -- The list is at fault at the index i, for this reason:
 pub data FirstFault (m : Meaning) (c : Content) (xs : List ℕ) (i : ℕ) : Refusal → Type 0 where
-  -- the number there is refused for it
-  at_move : {e : Refusal} (x : ℕ) → slice_get xs i ≡ Some x → Refuses m c (take i xs) x e → FirstFault m c xs i e
-  -- the list is over there, and no end row came
+  -- 15 to 18: the number there is refused
+  at_move : {e : Refusal} (x : ℕ) → slice_get xs i ≡ Some x → Refused m c (take i xs) x e → FirstFault m c xs i e
+  -- 19: the list is over there, and no end row came
   no_end : i ≡ length xs → Underway m c xs → FirstFault m c xs i NoEnd
 
 -- the check refuses exactly at the first fault, by its index and its reason
