@@ -46,26 +46,27 @@ starts_last moments r (Some l) h = eq-eqb _ _ refl
 
 module _ (m : Meaning) (c : Content) (x : ℕ) where
   -- what is named goes from a place where it starts
-  pub goes_on : (n : Named) (p : Place) → names c x ≡ Some n → starts_at c.moments n p ≡ true → GoesFrom m c x p (leads m n p).effect
+  goes_on : (n : Named) (p : Place) → names c x ≡ Some n → starts_at c.moments n p ≡ true → GoesFrom m c x p (leads m n p).effect
   goes_on n p e s = by_move (unpacked x) refl e
     where
       by_move : (o : Option Move) → unpacked x ≡ o → named_by_number c o ≡ Some n → GoesFrom m c x p (leads m n p).effect
       by_move None u f = absurd (none-some n f)
       by_move (Some v) u f = record { move = v; packs = u; to = (leads m n p).to; cost = (leads m n p).cost; goes = named_goes m c v p n f s }
 
-  -- and it does from some place
+  -- and there is one: in its row's mode, at the line's moment or at the last one
   goes_somewhere : Sound m c → (n : Named) → names c x ≡ Some n → GoesSomewhere m c x
   goes_somewhere sound n e =
       let p : Place = (n.row.from, start_moment c.moments n.line) in
       (p, (leads m n p).effect, goes_on n p e (and_from _ _ (eq-eqb _ _ refl) (starts_last c.moments n.row n.line sound.some_moment)))
 
-  -- What goes from a place is named, starts there and leads on with this effect.
+  -- What goes from a place, as the check sees it: it is named, starts there and leads on with this effect.
   record Starting (p : Place) (e : Effect) : Type 0 where
     name : Named
     named_so : names c x ≡ Some name
     starts : starts_at c.moments name p ≡ true
     does : (leads m name p).effect ≡ e
 
+  -- and so it is
   starting : (p : Place) (e : Effect) → GoesFrom m c x p e → Starting p e
   starting p e g =
       let z = goes_named m c g.move p g.to g.cost e g.goes in
@@ -82,7 +83,7 @@ module _ (m : Meaning) (c : Content) (x : ℕ) where
       either None e = refl
       either (Some n) e = absurd (h (goes_somewhere sound n e))
 
-  -- what is named and goes from here in no way does not start here, and the other way round
+  -- what is named and does not go from here does not start here, and the other way round
   elsewhere : (n : Named) (p : Place) → names c x ≡ Some n → ((e : Effect) → GoesFrom m c x p e → ⊥) → starts_at c.moments n p ≡ false
   elsewhere n p i h = either (starts_at c.moments n p) refl
     where
@@ -134,6 +135,7 @@ module _ {m : Meaning} {c : Content} (before : List ℕ) where
   over : {u : Progress} → Walk m c (start m) before u → u.ended ≡ true → Over m c before
   over {u} walk t = (u.cost, (accepts before u.cost).0 (walk_accepted 0 walk t))
 
+  -- it is one of the two
   came : (u : Progress) → Walk m c (start m) before u → Underway m c before ⊎ Over m c before
   came u walk = either u.ended refl
     where
