@@ -13,7 +13,7 @@ ghost use Rattle.script.specs.Sessions.{standing, Made, SessionMade};
 use crate::command::Command;
 use crate::error::ParseError;
 use crate::script::{parse, script_part};
-use crate::telling::push_answer;
+use crate::telling::{file_of, push_answer};
 use board::Draft;
 use costs::{Kind, KindName, Points, Rank, Severity};
 use file::{Answer, Board, step};
@@ -69,7 +69,7 @@ fn call_board<K: Kind>(
         return Ok(board);
     };
     let (next, answer) = step(board, call, buffer.as_mut_slice());
-    push_answer(out, answer, buffer.as_slice())?;
+    push_answer(out, answer, file_of(call), buffer.as_slice())?;
     Ok(next)
 }
 
@@ -109,7 +109,7 @@ fn obey(
     out.extend_from_slice(b" -> ")?;
     match session {
         None => {
-            push_answer(out, Answer::NotTaken, &[])?;
+            push_answer(out, Answer::NotTaken, &[], &[])?;
             Ok(None)
         }
         Some(session) => {
