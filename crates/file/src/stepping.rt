@@ -10,7 +10,7 @@ ghost use Rattle.file.specs.Histories.{state_of, records_of, Holds, Follows};
 use crate::boards::Board;
 use crate::call::{Answer, Call, NoteSpan};
 use crate::loading::Load;
-use board::{Draft, Settled};
+use board::{Draft, Settled, board_theorems};
 use costs::Kind;
 
 // A call on a draft, other than settling it.
@@ -58,6 +58,8 @@ pub fn step<K: Kind>(board: Board<K>, call: Call<'_>, buffer: &mut [u16]) -> (Bo
     ensures note { NoteStands K.meaning call.entry result.1 }
     ensures history { (calls : List Call) → Holds K.meaning calls board → Follows K.meaning calls call.entry buffer.old result.0 result.1 buffer.new }
 {
+    // (does nothing: it names what the board promises, on which `history` rests)
+    board_theorems();
     match board {
         Board::Drafted(mut draft) => match call {
             Call::Settle => (Board::Settled(draft.settle()), Answer::Settled),
