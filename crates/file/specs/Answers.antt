@@ -1,8 +1,9 @@
 -- What each call answers, and what it leaves of the buffer.
-use Rattle.std.specs.Prelude.{◌≡◌, ℕ, List, take, drop, length, Ok, Err, Result}
+use Rattle.std.specs.Prelude.{◌≡◌, ℕ, List, take, drop, length, Some, None, Ok, Err, Option, Result}
 use Rattle.costs.specs.Meaning.{Meaning}
 use Rattle.board.specs.declared.refusal.Refusal.{Refusal}
-use Rattle.board.specs.Refusals.{answer}
+use Rattle.board.specs.declared.check.Fault.{Fault}
+use Rattle.board.specs.Refusals.{number, answer}
 use Rattle.board.specs.Content.{Content}
 use Rattle.board.specs.Calls.{size_fault, row_fault, line_fault, reprice_fault}
 use Rattle.board.specs.Checks.{check_answer}
@@ -15,6 +16,7 @@ use Rattle.file.specs.declared.call.Answer.TheVariants as answer
 use Rattle.file.specs.declared.call.NoteSpan.{NoteSpan}
 use Rattle.file.specs.declared.refusal.LoadFault.{LoadFault}
 use Rattle.file.specs.Parts.{Piece}
+use Rattle.file.specs.Refusals.{file_number}
 use Rattle.file.specs.Load.{load_answer}
 use Rattle.file.specs.States.{State, draft, settled}
 
@@ -77,3 +79,20 @@ step_answer m (settled c) log x buffer = step_answer_settled m c log x buffer
 abbrev pub step_buffer : Meaning → State → List Record → Call → List ℕ → List ℕ
 step_buffer m (draft c) log x buffer = buffer
 step_buffer m (settled c) log x buffer = settled_buffer m c log x buffer
+
+-- the number of the error, where there is one
+abbrev pub number_of : {X E : Type 0} → (E → ℕ) → Result X E → Option ℕ
+number_of f (Ok x) = None
+number_of f (Err e) = Some (f e)
+
+-- The number of the refusal that an answer holds, if it holds one.
+abbrev pub refused_with : Answer → Option ℕ
+refused_with (answer.Sized r) = number_of number r
+refused_with (answer.Added r) = number_of number r
+refused_with (answer.Repriced r) = number_of number r
+refused_with (answer.Loaded r) = number_of (λ (f : LoadFault). file_number f.refusal) r
+refused_with (answer.Cost r) = number_of number r
+refused_with (answer.Path r) = number_of number r
+refused_with (answer.Between r) = number_of number r
+refused_with (answer.Checked r) = number_of (λ (f : Fault). number f.refusal) r
+refused_with a = None
