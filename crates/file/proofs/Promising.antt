@@ -6,7 +6,8 @@ use Rattle.board.specs.declared.refusal.Refusal.{Refusal}
 use Rattle.board.specs.declared.refusal.Refusal.TheVariants.{NoReading, TooLong}
 use Rattle.board.specs.Content.{Content, new, Sound}
 use Rattle.board.specs.Calls.{with_row, with_line, with_row_cost, with_line_cost, size_fault, row_fault, line_fault, reprice_fault}
-use Rattle.board.specs.Refusals.{unless}
+use Rattle.board.specs.Refusals.{number, unless}
+use Rattle.board.specs.Refusals.{answer as refused_or}
 use Rattle.board.specs.Ease.{Eased, CallsEase}
 use Rattle.board.specs.Packing.{packed}
 use Rattle.board.specs.Settling.{RecordedReading, HasNoReading, Answer}
@@ -15,8 +16,9 @@ use Rattle.board.specs.Questions.{cost_told, path_told, path_written}
 use Rattle.board.specs.Promises.{BoardPromises, Cheapest, Computed, NoneBelow}
 use Rattle.file.specs.declared.call.Call.{Call}
 use Rattle.file.specs.declared.call.Call.TheVariants as call
-use Rattle.file.specs.States.{State, draft, settled, content, fault, on_draft, stepped, state_from, state_after}
-use Rattle.file.specs.Easing.{Question, cost, Eases, adds_row, adds_line, reprices_row, reprices_line, settles, reopens, asks, declined, AllEase, none, next}
+use Rattle.file.specs.States.{State, draft, settled, content, on_draft, stepped, state_from, state_after}
+use Rattle.file.specs.Answers.{draft_answer, number_of, refused_with}
+use Rattle.file.specs.Easing.{is_load, Question, cost, Eases, adds_row, adds_line, reprices_row, reprices_line, settles, reopens, asks, declined, AllEase, none, next}
 use Rattle.file.specs.Promise.{settled_cost, cost_or_worst, answered_cost, Writes, written, AnsweredReading, AnswersCheapest, MainPromise}
 use Rattle.file.specs.Promise as promise
 use Rattle.file.proofs.Sounding.{stepped_sound, state_sound}
@@ -91,16 +93,17 @@ module _ {m : Meaning} (laws : Lawful m) (promises : BoardPromises) where
   unless_eased c done None h e = e
   unless_eased c done (Some r) h e = ease.same c h
 
-  unless_same : (o : Option Refusal) (done c : Content) (e : Refusal) → o ≡ Some e → unless o done c ≡ c
-  unless_same o done c e f = ap (λ z. unless z done c) f
+  unless_same : {X : Type 0} (o : Option Refusal) (x : X) (done c : Content) (n : ℕ) → number_of number (refused_or o x) ≡ Some n → unless o done c ≡ c
+  unless_same None x done c n e = absurd cc
+  unless_same (Some r) x done c n e = refl
 
-  declined_same : (c : Content) (x : Call) (e : Refusal) → fault m c x ≡ Some e → content (on_draft m c x) ≡ c
-  declined_same c (call.Size a b) e f = unless_same (size_fault c a b) _ c e f
-  declined_same c (call.AddRow r) e f = unless_same (row_fault m c r) _ c e f
-  declined_same c (call.AddLine l) e f = unless_same (line_fault m c l) _ c e f
-  declined_same c (call.RepriceRow i k) e f = unless_same (reprice_fault m c.rows i k) _ c e f
-  declined_same c (call.RepriceLine i k) e f = unless_same (reprice_fault m c.lines i k) _ c e f
-  declined_same c x e f = absurd cc
+  declined_same : (c : Content) (x : Call) (n : ℕ) → is_load x ≡ false → refused_with (draft_answer m c x) ≡ Some n → content (on_draft m c x) ≡ c
+  declined_same c (call.Size a b) n other e = unless_same (size_fault c a b) tt _ c n e
+  declined_same c (call.AddRow r) n other e = unless_same (row_fault m c r) (length c.rows) _ c n e
+  declined_same c (call.AddLine l) n other e = unless_same (line_fault m c l) (length c.lines) _ c n e
+  declined_same c (call.RepriceRow i k) n other e = unless_same (reprice_fault m c.rows i k) tt _ c n e
+  declined_same c (call.RepriceLine i k) n other e = unless_same (reprice_fault m c.lines i k) tt _ c n e
+  declined_same c x n other e = absurd cc
 
   asked_same : (c : Content) {x : Call} → Question x → content (stepped m (settled c) x) ≡ c
   asked_same c cost = refl
@@ -114,7 +117,7 @@ module _ {m : Meaning} (laws : Lawful m) (promises : BoardPromises) where
   step_eased h (settles {c}) = ease.same c h
   step_eased h (reopens {c}) = ease.same c h
   step_eased h (asks {c} q) = subst (Eased m c) (sym (asked_same c q)) (ease.same c h)
-  step_eased h (declined {c} {x} e f) = subst (Eased m c) (sym (declined_same c x e f)) (ease.same c h)
+  step_eased h (declined {c} {x} n other e) = subst (Eased m c) (sym (declined_same c x n other e)) (ease.same c h)
 
   all_eased : {s : State} {xs : List Call} → Sound m (content s) → AllEase m s xs → Eased m (content s) (content (state_from m s xs))
   all_eased {s} h none = ease.same (content s) h

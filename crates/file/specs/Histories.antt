@@ -1,17 +1,17 @@
 -- A board after a history of calls, and what one call more makes of it.
-use Rattle.std.specs.Prelude.{◌≡◌, ℕ, List, [], ◌∷◌, ◌++◌}
+use Rattle.std.specs.Prelude.{◌≡◌, ℕ, List, [], ◌∷◌, ◌++◌, refl}
 use Rattle.costs.specs.declared.kind.Kind.{Ghosts}
 use Rattle.costs.specs.Meaning.{Meaning}
 use Rattle.board.specs.Held.{draft_content}
-use Rattle.board.specs.Boards.{settled_content, settled_records}
+use Rattle.board.specs.Boards.{settled_content, settled_records, settled_defined}
 use Rattle.board.specs.Settling.{Record}
 use Rattle.board.specs.Computing.{settled_log}
-use Rattle.board.specs.Promises.{BoardPromises}
 use Rattle.file.specs.declared.call.Call.{Call}
 use Rattle.file.specs.declared.boards.Board.{Board}
 use Rattle.file.specs.declared.boards.Board.TheVariants as board
 use Rattle.file.specs.States.{State, draft, settled, state_after}
-use Rattle.file.specs.Told.{Told, step_answer, step_buffer}
+use Rattle.file.specs.declared.call.Answer.{Answer}
+use Rattle.file.specs.Answers.{step_answer, step_buffer}
 use Rattle.file.specs.Promise.{MainPromise}
 
 -- the state of a board
@@ -29,17 +29,20 @@ abbrev pub defined_records : Meaning → State → List Record
 defined_records m (draft c) = []
 defined_records m (settled c) = settled_log m c
 
--- The board is what these calls make of a new one: it stands in their state and holds exactly the defined records. What
--- the board crate promises over contents stands beside it.
-pub record Holds {K : Type 0} {k : Ghosts K} (m : Meaning) (calls : List Call) (b : Board K k) : Type 0 where
-  pub state : state_of b ≡ state_after m calls
-  pub records : records_of b ≡ defined_records m (state_after m calls)
-  pub promises : BoardPromises
+-- The records of every board are the defined ones.
+pub records_defined : {K : Type 0} {k : Ghosts K} (b : Board K k) → records_of b ≡ defined_records k.meaning (state_of b)
+records_defined (board.Drafted d) = refl
+records_defined (board.Settled s) = settled_defined s
 
--- One call more after a history: the board is what all these calls make of a new one, the answer and the buffer are the
--- defined ones, and the main promise holds of the whole list.
-pub record Follows {K : Type 0} {k : Ghosts K} (m : Meaning) (calls : List Call) (x : Call) (buffer : List ℕ) (after : Board K k) (told : Told) (left : List ℕ) : Type 0 where
+-- The board is what these calls make of a new one.
+abbrev pub Holds : {K : Type 0} {k : Ghosts K} → Meaning → List Call → Board K k → Type 0
+Holds m calls b = state_of b ≡ state_after m calls
+
+-- One call more after a history: the board is what all these calls make of a new one, with exactly the defined records, the
+-- answer and the buffer are the defined ones, and the main promise holds of the whole list.
+pub record Follows {K : Type 0} {k : Ghosts K} (m : Meaning) (calls : List Call) (x : Call) (buffer : List ℕ) (after : Board K k) (told : Answer) (left : List ℕ) : Type 0 where
   pub holds : Holds m (calls ++ (x ∷ [])) after
+  pub records : records_of after ≡ defined_records m (state_after m (calls ++ (x ∷ [])))
   pub answered : told ≡ step_answer m (state_after m calls) (defined_records m (state_after m calls)) x buffer
   pub written : left ≡ step_buffer m (state_after m calls) (defined_records m (state_after m calls)) x buffer
   pub promise : MainPromise m (calls ++ (x ∷ []))

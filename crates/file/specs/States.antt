@@ -1,9 +1,8 @@
 -- What a list of calls makes of a board, told by the calls' arguments alone.
-use Rattle.std.specs.Prelude.{List, [], ◌∷◌, None, Option}
+use Rattle.std.specs.Prelude.{List, [], ◌∷◌}
 use Rattle.costs.specs.Meaning.{Meaning}
-use Rattle.board.specs.declared.refusal.Refusal.{Refusal}
 use Rattle.board.specs.Content.{Content, new}
-use Rattle.board.specs.Calls.{size_fault, size_after, row_fault, row_after, line_fault, line_after, reprice_fault, reprice_row_after, reprice_line_after, without_lines}
+use Rattle.board.specs.Calls.{size_after, row_after, line_after, reprice_row_after, reprice_line_after, without_lines}
 use Rattle.file.specs.declared.call.Call.{Call}
 use Rattle.file.specs.declared.call.Call.TheVariants.{Size, AddRow, AddLine, RepriceRow, RepriceLine, ClearLines, Load, Settle, Reopen}
 use Rattle.file.specs.Load.{load_after}
@@ -17,15 +16,6 @@ pub data State : Type 0 where
 abbrev pub content : State → Content
 content (draft c) = c
 content (settled c) = c
-
--- Why a draft declines a call; load's declines are the file's.
-abbrev pub fault : Meaning → Content → Call → Option Refusal
-fault m c (Size modes moments) = size_fault c modes moments
-fault m c (AddRow r) = row_fault m c r
-fault m c (AddLine l) = line_fault m c l
-fault m c (RepriceRow i k) = reprice_fault m c.rows i k
-fault m c (RepriceLine i k) = reprice_fault m c.lines i k
-fault m c x = None
 
 -- What a call makes of a draft's content: size sets M and T, add puts a row or line last, reprice sets that number's
 -- cost, clear drops all lines, and load takes the file's content, or a new board's where it is declined. A call that is

@@ -17,7 +17,7 @@ mod trust;
 mod unread;
 
 pub use boards::Board;
-pub use call::{Answer, Call};
+pub use call::{Answer, Call, NoteSpan};
 pub use loading::Load;
 pub use part::{Note, Part};
 pub use refusal::{FileRefusal, Layer, LoadFault};

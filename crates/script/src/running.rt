@@ -1,5 +1,5 @@
 // Running a script, line by line.
-ghost use Rattle.std.specs.Prelude.{◌≡◌, ◌++◌, Some, OnOk, IfOk, IfSome};
+ghost use Rattle.std.specs.Prelude.{◌≡◌, ◌++◌, Some, OnOk, IfOk};
 ghost use Rattle.std.specs.Option.{option_map};
 ghost use Rattle.board.specs.Content.{new};
 ghost use Rattle.file.specs.States.{draft};
@@ -8,12 +8,12 @@ ghost use Rattle.script.specs.Calls.{command_of, on_board};
 ghost use Rattle.script.specs.Script.{script_part_of, line_parsed, said};
 ghost use Rattle.script.specs.Printing.{buffer_of, made_text, made_state, board_text, board_after, call_text, call_after, printed, PrintsAnswers};
 ghost use Rattle.script.specs.Worked.{WorkedScripts};
-ghost use Rattle.script.specs.Sessions.{standing, Made, SessionMade};
+ghost use Rattle.script.specs.Sessions.{standing};
 
 use crate::command::Command;
 use crate::error::ParseError;
 use crate::script::{parse, script_part};
-use crate::telling::push_answer;
+use crate::telling::{file_of, push_answer};
 use board::Draft;
 use costs::{Kind, KindName, Points, Rank, Severity};
 use file::{Answer, Board, step};
@@ -32,7 +32,6 @@ enum Session {
 // A new board of the kind.
 fn new_session(kind: KindName) -> Session
     ensures stands { standing result ≡ record { kind = kind; state = draft new } }
-    ensures made { SessionMade result }
 {
     match kind {
         KindName::Points => Session::Points(Board::Drafted(Draft::new())),
@@ -58,10 +57,8 @@ fn call_board<K: Kind>(
     board: Board<K>,
     command: &Command,
 ) -> Result<Board<K>, AllocError>
-    requires made { Made K.meaning board }
     ensures text { OnOk result (out.new.items ≡ out.old.items ++ made_text K.meaning (state_of board) (on_board (command_of command.now)) (buffer_of (command_of command.now))) }
     ensures after { IfOk result (λ b. state_of b ≡ made_state K.meaning (state_of board) (on_board (command_of command.now))) }
-    ensures made { IfOk result (λ b. Made K.meaning b) }
 {
     let mut buffer = buffer_of(*out.allocator(), command)?;
     // (naming a kind makes no call, and does not come here)
@@ -69,7 +66,7 @@ fn call_board<K: Kind>(
         return Ok(board);
     };
     let (next, answer) = step(board, call, buffer.as_mut_slice());
-    push_answer(out, answer, buffer.as_slice())?;
+    push_answer(out, answer, file_of(call), buffer.as_slice())?;
     Ok(next)
 }
 
@@ -79,10 +76,8 @@ fn call_session(
     session: Session,
     command: &Command,
 ) -> Result<Session, AllocError>
-    requires made { SessionMade session }
     ensures text { OnOk result (out.new.items ≡ out.old.items ++ board_text (Some (standing session)) (command_of command.now)) }
     ensures after { IfOk result (λ s. Some (standing s) ≡ board_after (Some (standing session)) (command_of command.now)) }
-    ensures made { IfOk result (λ s. SessionMade s) }
 {
     let next = match session {
         Session::Points(board) => Session::Points(call_board(out, board, command)?),
@@ -98,10 +93,8 @@ fn obey(
     session: Option<Session>,
     command: &Command,
 ) -> Result<Option<Session>, AllocError>
-    requires made { IfSome session SessionMade }
     ensures text { OnOk result (out.new.items ≡ out.old.items ++ call_text (option_map standing session) (command_of command.now)) }
     ensures after { IfOk result (λ s. option_map standing s ≡ call_after (option_map standing session) (command_of command.now)) }
-    ensures made { IfOk result (λ s. IfSome s SessionMade) }
 {
     if let Command::Kind(kind) = command {
         return Ok(Some(new_session(*kind)));
@@ -109,7 +102,7 @@ fn obey(
     out.extend_from_slice(b" -> ")?;
     match session {
         None => {
-            push_answer(out, Answer::NotTaken, &[])?;
+            push_answer(out, Answer::NotTaken, &[], &[])?;
             Ok(None)
         }
         Some(session) => {

@@ -1,8 +1,8 @@
-use Rattle.std.proofs.Common.{List, take, sym, subst}
+use Rattle.std.proofs.Common.{List, take, sym, ap, ◌∙◌, subst}
 use Rattle.std.proofs.lemmas.List.{take_more, take_all}
 use Rattle.file.specs.declared.call.Call.{Call}
 use Rattle.file.specs.declared.call.Call.TheVariants.{Size}
-use Rattle.file.specs.Histories.{Holds}
+use Rattle.file.specs.Histories.{defined_records, records_defined, Holds}
 use Rattle.file.proofs.Promising.{main_promise}
 use Rattle.file.proofs.replaying.replay.Goals as goal
 
@@ -17,5 +17,5 @@ pub returns : goal.returns
 returns g c =
     let m = g.K.Kind.meaning in
     let calls = c.args.calls.now in
-    let h = subst (λ (xs : List Call). Holds m xs c.loop-call.board) (take_all c.loop-call.call-index calls c.loop-call-test.false) c.loop-call.invariant in
-    record { holds = h; promise = main_promise g.met.K.Kind.lawful h.promises calls }
+    let h : Holds m calls c.loop-call.board = subst (λ (xs : List Call). Holds m xs c.loop-call.board) (take_all c.loop-call.call-index calls c.loop-call-test.false) c.loop-call.invariant in
+    record { holds = h; records = records_defined c.loop-call.board ∙ ap (defined_records m) h; promise = main_promise g.met.K.Kind.lawful c.board_theorems.ensures.promises calls }

@@ -23,5 +23,4 @@ returns-in_ok-next-in-Some c =
           ∙ ap (λ (s : Option Standing). out ++ (codes " -> " ++ board_text s x)) there
           ∙ ap (λ (t : List ℕ). out ++ t) (sym other.0);
       after = next.after ∙ ap (λ (s : Option Standing). board_after s x) there ∙ sym other.1;
-      made = next.made;
     }
