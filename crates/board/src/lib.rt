@@ -9,7 +9,6 @@ mod log;
 mod moves;
 mod named;
 mod packing;
-mod priced;
 mod reading;
 mod refusal;
 mod row;
