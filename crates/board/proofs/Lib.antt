@@ -4,6 +4,7 @@ pub mod Balance
 pub mod Naming
 pub mod Accepting
 pub mod Laws
+pub mod Joining
 pub mod Membership
 pub mod Diagonal
 pub mod Transitions
