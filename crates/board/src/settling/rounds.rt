@@ -3,8 +3,9 @@ ghost use Rattle.std.specs.Prelude.{◌≡◌, ◌+◌, [], ◌∷◌, None as A
 ghost use Rattle.board.specs.Held.{held};
 ghost use Rattle.board.specs.Settling.{Settled};
 ghost use Rattle.board.specs.Logged.{Refers, pair_of, record_of};
-ghost use Rattle.board.specs.Logs.{Kept, Book, records, Reached, RoundMade};
+ghost use Rattle.board.specs.Logs.{Kept, Book, records, Reached, RoundAdded};
 ghost use Rattle.board.specs.Minima.{State};
+ghost use Rattle.board.specs.Winning.{LeastPair};
 
 use crate::log::{Entry, Log, Source};
 use crate::settling::candidates::least_pair;
@@ -79,18 +80,16 @@ impl Settling {
         }
     }
 
-    // Makes one round: settles the least candidate below the worst, or says that there is none.
-    fn round<K: Kind>(&mut self, tables: &Tables<K>) -> bool
+    // Makes one round: settles the pair, for which the least candidate below the worst waits.
+    fn round<K: Kind>(&mut self, tables: &Tables<K>, pair: usize)
         requires state { State K.meaning (held tables.now) self.old.log self.old.minima }
         requires reached { Reached K.meaning (held tables.now) (records self.old.log) }
+        requires least { LeastPair K.meaning self.old.log self.old.minima.waiting.costs 4096 pair }
         ensures state { State K.meaning (held tables.now) self.new.log self.new.minima }
         ensures reached { Reached K.meaning (held tables.now) (records self.new.log) }
-        ensures made { RoundMade K.meaning (held tables.now) self.old.log self.new.log result }
+        ensures added { RoundAdded K.meaning (held tables.now) self.old.log self.new.log }
     {
         let minima = &self.minima;
-        let Some(pair) = least_pair::<K>(&self.log, &minima.waiting) else {
-            return false;
-        };
         let goal = Goal {
             from: tables.place(pair / 64),
             to: tables.place(pair % 64),
@@ -108,7 +107,6 @@ impl Settling {
             source,
         };
         self.settle(tables, r);
-        true
     }
 }
 
@@ -120,9 +118,10 @@ pub(crate) fn settled_log<K: Kind>(tables: &Tables<K>) -> Log
     let mut settling = Settling::empty(tables);
     settling.begin(tables);
     'rounds: loop {
-        if !settling.round(tables) {
+        let Some(pair) = least_pair::<K>(&settling.log, &settling.minima.waiting) else {
             break 'rounds;
-        }
+        };
+        settling.round(tables, pair);
     }
     settling.log
 }
