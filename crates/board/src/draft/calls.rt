@@ -6,6 +6,7 @@ ghost use Rattle.board.specs.Calls.{size_fault, size_after, row_fault, row_after
 ghost use Rattle.board.specs.Held.{draft_content};
 ghost use Rattle.board.specs.Promises.{BoardPromises};
 
+use crate::bounds::PLACES;
 use crate::draft::Draft;
 use crate::refusal::Refusal;
 use crate::row::{Line, Row};
@@ -34,7 +35,7 @@ impl<K: Kind> Draft<K> {
             return Err(Refusal::NotEmpty);
         }
         let places = u64::from(modes) * u64::from(moments);
-        if places == 0 || places > 64 {
+        if places == 0 || places > PLACES as u64 {
             return Err(Refusal::SizeOut);
         }
         tables.set_size(modes as u8, moments as u8);

@@ -7,6 +7,7 @@ ghost use Rattle.board.specs.Logs.{Kept, Book, records, Reached, RoundAdded};
 ghost use Rattle.board.specs.Minima.{State};
 ghost use Rattle.board.specs.Winning.{LeastPair};
 
+use crate::bounds::{PAIRS, PLACES, ROWS};
 use crate::log::{Entry, Log, Source};
 use crate::settling::candidates::least_pair;
 use crate::settling::{Goal, Known, Minima, Settling, Waiting};
@@ -22,12 +23,12 @@ impl Settling {
         let mut settling = Settling {
             log: Log::new(),
             minima: Minima {
-                links: [K::worst(); 4096],
+                links: [K::worst(); PAIRS],
                 waiting: Waiting {
-                    costs: [K::worst(); 4096],
-                    least: [K::worst(); 64],
+                    costs: [K::worst(); PAIRS],
+                    least: [K::worst(); PLACES],
                 },
-                leads: [false; 128],
+                leads: [false; ROWS],
             },
         };
         tables.add_links(&mut settling.minima.links);
@@ -84,15 +85,15 @@ impl Settling {
     fn round<K: Kind>(&mut self, tables: &Tables<K>, pair: usize)
         requires state { State K.meaning (held tables.now) self.old.log self.old.minima }
         requires reached { Reached K.meaning (held tables.now) (records self.old.log) }
-        requires least { LeastPair K.meaning self.old.log self.old.minima.waiting.costs 4096 pair }
+        requires least { LeastPair K.meaning self.old.log self.old.minima.waiting.costs PAIRS pair }
         ensures state { State K.meaning (held tables.now) self.new.log self.new.minima }
         ensures reached { Reached K.meaning (held tables.now) (records self.new.log) }
         ensures added { RoundAdded K.meaning (held tables.now) self.old.log self.new.log }
     {
         let minima = &self.minima;
         let goal = Goal {
-            from: tables.place(pair / 64),
-            to: tables.place(pair % 64),
+            from: tables.place(pair / PLACES),
+            to: tables.place(pair % PLACES),
             cost: minima.waiting.costs[pair],
         };
         let known = Known {

@@ -8,6 +8,7 @@ ghost use Rattle.board.specs.Held.{held};
 ghost use Rattle.board.specs.Logged.{pair_of};
 ghost use Rattle.board.specs.Moves.{move_row, place_number};
 
+use crate::bounds::{LINES, PLACES, ROWS};
 use crate::moves::Place;
 use crate::row::{Line, Row};
 use crate::tables::Tables;
@@ -34,7 +35,7 @@ impl<K: Kind> Tables<K> {
         requires no_rows { (held self.old).rows ≡ [] }
         requires no_lines { (held self.old).lines ≡ [] }
         requires some { 0 < modes * moments }
-        requires few { modes * moments ≤ 64 }
+        requires few { modes * moments ≤ PLACES }
         ensures { held self.new ≡ with_size (held self.old) modes moments }
     {
         self.modes = modes;
@@ -43,7 +44,7 @@ impl<K: Kind> Tables<K> {
 
     // Puts a sound row last.
     pub(crate) fn push_row(&mut self, row: Row)
-        requires room { length (held self.old).rows < 128 }
+        requires room { length (held self.old).rows < ROWS }
         requires sound { SoundRow K.meaning (held self.old) row }
         ensures { held self.new ≡ with_row (held self.old) row }
     {
@@ -52,7 +53,7 @@ impl<K: Kind> Tables<K> {
 
     // Puts a sound line last.
     pub(crate) fn push_line(&mut self, line: Line)
-        requires room { length (held self.old).lines < 128 }
+        requires room { length (held self.old).lines < LINES }
         requires sound { SoundLine K.meaning (held self.old) line }
         ensures { held self.new ≡ with_line (held self.old) line }
     {
@@ -122,6 +123,6 @@ impl<K: Kind> Tables<K> {
     pub(crate) fn pair(&self, from: Place, to: Place) -> usize
         ensures { result ≡ pair_of (held self.now) from to }
     {
-        self.place_number(from) * 64 + self.place_number(to)
+        self.place_number(from) * PLACES + self.place_number(to)
     }
 }

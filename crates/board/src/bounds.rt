@@ -1,0 +1,17 @@
+// The bounds of a board, of its log and of a check.
+
+// Places, M times T, at most. Places are numbered below it, and a pair of places is numbered by its first place times this, plus
+// its second.
+pub(crate) const PLACES: usize = 64;
+
+// Pairs of places, so entries of a log, and calls that one entry stands inside, at most.
+pub(crate) const PAIRS: usize = PLACES * PLACES;
+
+// Rows at most.
+pub(crate) const ROWS: usize = 128;
+
+// Lines at most.
+pub(crate) const LINES: usize = 128;
+
+// Brackets that a check keeps open at once, at most.
+pub(crate) const OPEN_BRACKETS: usize = 4096;
