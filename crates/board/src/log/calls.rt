@@ -3,7 +3,7 @@ ghost use Rattle.std.specs.Prelude.{◌≡◌, ◌<◌, min, length, None as ANo
 ghost use Rattle.board.specs.Logs.{Spells, pushed, records, empty};
 ghost use Rattle.board.specs.Logged.{Refers, spelled};
 
-use crate::bounds::PAIRS;
+use crate::bounds::{MANY_MOVES, PAIRS};
 use crate::log::{Entry, Log, Source};
 
 const BLANK: Entry = Entry {
@@ -51,14 +51,14 @@ impl Log {
     pub(crate) fn length_of(&self, source: Source) -> u32
         requires refers { Refers self.now.count source }
         requires spells { Spells self.now }
-        ensures { result ≡ min (length (spelled (records self.now) source)) 65536 }
+        ensures { result ≡ min (length (spelled (records self.now) source)) MANY_MOVES }
     {
         match source {
             Source::Start => 0,
-            Source::Step(front, _) => (self.lengths[front as usize] + 1).min(65536),
+            Source::Step(front, _) => (self.lengths[front as usize] + 1).min(MANY_MOVES),
             Source::Call(front, inside, _, _, _) => (self.lengths[front as usize]
                 + self.lengths[inside as usize]
-                + 2).min(65536),
+                + 2).min(MANY_MOVES),
         }
     }
 }
