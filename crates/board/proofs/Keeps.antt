@@ -124,7 +124,7 @@ module _ (m : Meaning) where
     sound_lines = λ i l e. line_on c (with_row c r) l refl (h.sound_lines i l e);
   }
 
-  pub row_keeps : (c : Content) (r : Row) → Sound m c → Sound m (row_after m c r)
+  row_keeps : (c : Content) (r : Row) → Sound m c → Sound m (row_after m c r)
   row_keeps c r h = unless_keeps (Sound m) (row_fault m c r) (with_row c r) c (λ e. let s = row_sound c r e in with_row_sound c r h s.0 s.1) h
 
   pub with_line_sound : (c : Content) (l : Line) → Sound m c → length c.lines < 128 → SoundLine m c l → Sound m (with_line c l)
@@ -138,7 +138,7 @@ module _ (m : Meaning) where
     sound_lines = λ i x e. line_on c (with_line c l) x refl (⊎_elim (h.sound_lines i x) (λ f. subst (SoundLine m c) f k) (nth_push c.lines l i x e));
   }
 
-  pub line_keeps : (c : Content) (l : Line) → Sound m c → Sound m (line_after m c l)
+  line_keeps : (c : Content) (l : Line) → Sound m c → Sound m (line_after m c l)
   line_keeps c l h = unless_keeps (Sound m) (line_fault m c l) (with_line c l) c (λ e. let s = line_sound c l e in with_line_sound c l h s.0 s.1) h
 
   row_priced : (c : Content) (r : Row) (k : ℕ) → SoundRow m c r → Cost m k → SoundRow m c (row_at_cost k r)
