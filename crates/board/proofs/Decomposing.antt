@@ -2,7 +2,6 @@
 use Rattle.std.proofs.Common.{◌≡◌, ℕ, List, [], ◌∷◌, ◌++◌, Option, sym, refl, ap, ◌∙◌, subst, ⊎_elim, append_assoc, append-nil}
 use Rattle.costs.specs.Meaning.{Meaning, Lawful, Cost}
 use Rattle.costs.specs.Lists.{Costs, joined, joined_onto}
-use Rattle.costs.proofs.Joining.{joined_cost, onto_total}
 use Rattle.board.specs.declared.row.Row.{Row}
 use Rattle.board.specs.declared.moves.Move.{Move}
 use Rattle.board.specs.declared.moves.Effect.{Effect}
@@ -10,6 +9,7 @@ use Rattle.board.specs.declared.moves.Effect.TheVariants.{Quiet, Opens, Closes, 
 use Rattle.board.specs.Content.{Content, Sound}
 use Rattle.board.specs.Moves.{Place, Untimed, Timed, Transition}
 use Rattle.board.specs.Paths.{Path, stop, go, Dyck, empty, both, pair, brackets, Balanced, Running}
+use Rattle.board.proofs.Joining.{joined_cost, onto_total}
 
 -- A balanced path without end rows, built at its end by steps and calls.
 pub data GrownPath (m : Meaning) (c : Content) : Place → Place → ℕ → Type 0 where

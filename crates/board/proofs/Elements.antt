@@ -1,5 +1,5 @@
 -- What stands at a number of a list: after one element is added or changed, and in a front.
-use Rattle.std.proofs.Common.{◌≡◌, ℕ, zero, suc, ◌*◌, ◌<◌, ◌≤◌, ◌⊎◌, List, [], ◌∷◌, ◌++◌, length, get_or, set, Some, refl, ap, ◌∙◌, subst, ap₂, inl, inr, mul_comm, mul-zero, zero-mul, le-mul_of_pos_right, arith}
+use Rattle.std.proofs.Common.{◌≡◌, ◌≢◌, ℕ, zero, suc, ◌*◌, ◌<◌, ◌≤◌, ◌⊎◌, List, [], ◌∷◌, ◌++◌, length, get_or, set, Some, refl, ap, ◌∙◌, subst, ap₂, inl, inr, mul_comm, mul-zero, zero-mul, le-mul_of_pos_right, arith}
 use Rattle.std.proofs.lemmas.Option.{none-some, slice_get_within}
 use Rattle.std.specs.List.{slice_get, refill}
 use Rattle.std.proofs.lemmas.List.{length-set}
@@ -19,6 +19,14 @@ nth_changed f (x ∷ xs) zero zero y e = inr (x, refl, cc)
 nth_changed f (x ∷ xs) zero (suc i) y e = inl e
 nth_changed f (x ∷ xs) (suc j) zero y e = inl e
 nth_changed f (x ∷ xs) (suc j) (suc i) y e = nth_changed f xs j i y e
+
+-- every other element is as it was
+pub nth_other : {A : Type 0} (f : A → A) (xs : List A) (j i : ℕ) → i ≢ j → slice_get (changed f xs j) i ≡ slice_get xs i
+nth_other f [] j i h = refl
+nth_other f (x ∷ xs) zero zero h = absurd (h refl)
+nth_other f (x ∷ xs) zero (suc i) h = refl
+nth_other f (x ∷ xs) (suc j) zero h = refl
+nth_other f (x ∷ xs) (suc j) (suc i) h = nth_other f xs j i (λ e. h (ap suc e))
 
 pub nth_empty : {A : Type 0} (xs : List A) (i : ℕ) (x : A) → length xs ≡ 0 → slice_get xs i ≡ Some x → ⊥
 nth_empty xs i x n e = omega (arith, slice_get_within xs i x e)
@@ -45,8 +53,8 @@ set_changed f (x ∷ xs) zero d h = refl
 set_changed f (x ∷ xs) (suc i) d h = ap (λ ys. x ∷ ys) (set_changed f xs i d (omega arith))
 
 -- the same, as a write through a slice leaves the list
-pub changed_set : {A : Type 0} (f : A → A) (xs ys : List A) (i : ℕ) (d x : A) → i < length xs → ys ≡ xs → d ≡ get_or xs i d → x ≡ f d → refill (length xs) xs (set ys i x) ≡ changed f xs i
-changed_set f xs ys i d x h same is made =
-    let at : set ys i x ≡ changed f xs i = ap₂ (λ zs y. set zs i y) same (made ∙ ap f is) ∙ set_changed f xs i d h in
+pub changed_set : {A : Type 0} (f : A → A) (xs ys : List A) (i : ℕ) (d x : A) → i < length xs → ys ≡ xs → x ≡ f (get_or ys i d) → refill (length xs) xs (set ys i x) ≡ changed f xs i
+changed_set f xs ys i d x h same made =
+    let at : set ys i x ≡ changed f xs i = ap₂ (λ zs y. set zs i y) same (made ∙ ap (λ zs. f (get_or zs i d)) same) ∙ set_changed f xs i d h in
     let long : length (set ys i x) ≡ length xs = length-set ys i x ∙ ap length same in
     subst (λ n. refill n xs (set ys i x) ≡ set ys i x) long (take-append_seam (set ys i x) _) ∙ at

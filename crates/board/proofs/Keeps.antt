@@ -1,5 +1,5 @@
 -- Every call on a draft keeps its content sound.
-use Rattle.std.proofs.Common.{◌≡◌, ℕ, ◌*◌, ◌<◌, ◌≤◌, Bool, true, false, cond, List, length, Some, None, Option, sym, refl, ap, ◌∙◌, subst, ⊎_elim, arith, length-append}
+use Rattle.std.proofs.Common.{◌≡◌, ℕ, ◌*◌, ◌<◌, ◌≤◌, Bool, true, false, cond, List, length, Some, None, Option, sym, refl, ◌∙◌, subst, ⊎_elim, arith, length-append}
 use Rattle.std.proofs.lemmas.Option.{none-some}
 use Rattle.std.proofs.lemmas.Bool.{or_parts, not-false, eqb-true, eqb-false, ltb-false, leb-false}
 use Rattle.costs.specs.Meaning.{Meaning, Cost}
@@ -10,8 +10,8 @@ use Rattle.board.specs.declared.row.Line.{Line}
 use Rattle.board.specs.declared.refusal.Refusal.{Refusal}
 use Rattle.board.specs.Refusals.{first, unless}
 use Rattle.board.specs.Rows.{formed}
-use Rattle.board.specs.Content.{Content, content, new, Sound, SoundRow, SoundLine}
-use Rattle.board.specs.Calls.{changed, size_fault, with_size, size_after, row_fault, with_row, row_after, line_faults, line_fault, with_line, line_after, reprice_fault, row_at_cost, line_at_cost, with_row_cost, with_line_cost, reprice_row_after, reprice_line_after, without_lines, CallsKeep}
+use Rattle.board.specs.Content.{Content, new, Sound, SoundRow, SoundLine}
+use Rattle.board.specs.Calls.{size_fault, with_size, size_after, row_fault, with_row, row_after, line_faults, line_fault, with_line, line_after, reprice_fault, row_at_cost, line_at_cost, with_row_cost, with_line_cost, reprice_row_after, reprice_line_after, without_lines, CallsKeep}
 use Rattle.board.proofs.Elements.{nth_push, nth_changed, nth_empty, length_changed, factors}
 
 -- where none of the reasons applies, the first does not, nor do the others
@@ -22,11 +22,6 @@ none_first false e o h = (refl, h)
 pub unless_keeps : {X : Type 0} (P : X → Type 0) (o : Option Refusal) (done old : X) → (o ≡ None → P done) → P old → P (unless o done old)
 unless_keeps P None done old f h = f refl
 unless_keeps P (Some e) done old f h = h
-
--- what is done to either outcome is done to the outcome
-unless_each : {X Y : Type 0} (h : X → Y) (o : Option Refusal) (done old : X) → h (unless o done old) ≡ unless o (h done) (h old)
-unless_each h None done old = refl
-unless_each h (Some e) done old = refl
 
 -- a row's cost has no part in how it is formed
 pub formed_at_cost : (kind : RowKind) (r : Row) (k : ℕ) → formed kind (row_at_cost k r) ≡ formed kind r
@@ -118,7 +113,7 @@ module _ (m : Meaning) where
       let full = none_first _ _ _ e in
       (leb-false _ _ full.0, line_sound_on c l full.1)
 
-  with_row_sound : (c : Content) (r : Row) → Sound m c → length c.rows < 128 → SoundRow m c r → Sound m (with_row c r)
+  pub with_row_sound : (c : Content) (r : Row) → Sound m c → length c.rows < 128 → SoundRow m c r → Sound m (with_row c r)
   with_row_sound c r h n k = record {
     some_mode = h.some_mode;
     some_moment = h.some_moment;
@@ -129,10 +124,10 @@ module _ (m : Meaning) where
     sound_lines = λ i l e. line_on c (with_row c r) l refl (h.sound_lines i l e);
   }
 
-  pub row_keeps : (c : Content) (r : Row) → Sound m c → Sound m (row_after m c r)
+  row_keeps : (c : Content) (r : Row) → Sound m c → Sound m (row_after m c r)
   row_keeps c r h = unless_keeps (Sound m) (row_fault m c r) (with_row c r) c (λ e. let s = row_sound c r e in with_row_sound c r h s.0 s.1) h
 
-  with_line_sound : (c : Content) (l : Line) → Sound m c → length c.lines < 128 → SoundLine m c l → Sound m (with_line c l)
+  pub with_line_sound : (c : Content) (l : Line) → Sound m c → length c.lines < 128 → SoundLine m c l → Sound m (with_line c l)
   with_line_sound c l h n k = record {
     some_mode = h.some_mode;
     some_moment = h.some_moment;
@@ -143,7 +138,7 @@ module _ (m : Meaning) where
     sound_lines = λ i x e. line_on c (with_line c l) x refl (⊎_elim (h.sound_lines i x) (λ f. subst (SoundLine m c) f k) (nth_push c.lines l i x e));
   }
 
-  pub line_keeps : (c : Content) (l : Line) → Sound m c → Sound m (line_after m c l)
+  line_keeps : (c : Content) (l : Line) → Sound m c → Sound m (line_after m c l)
   line_keeps c l h = unless_keeps (Sound m) (line_fault m c l) (with_line c l) c (λ e. let s = line_sound c l e in with_line_sound c l h s.0 s.1) h
 
   row_priced : (c : Content) (r : Row) (k : ℕ) → SoundRow m c r → Cost m k → SoundRow m c (row_at_cost k r)
@@ -156,7 +151,7 @@ module _ (m : Meaning) where
   priced : {A : Type 0} (xs : List A) (i k : ℕ) → reprice_fault m xs i k ≡ None → Cost m k
   priced xs i k e = not-false _ (none_first _ _ _ (none_first _ _ _ e).1).0
 
-  with_row_cost_sound : (c : Content) (j k : ℕ) → Sound m c → Cost m k → Sound m (with_row_cost c j k)
+  pub with_row_cost_sound : (c : Content) (j k : ℕ) → Sound m c → Cost m k → Sound m (with_row_cost c j k)
   with_row_cost_sound c j k h p = record {
     some_mode = h.some_mode;
     some_moment = h.some_moment;
@@ -170,7 +165,7 @@ module _ (m : Meaning) where
   reprice_row_keeps : (c : Content) (j k : ℕ) → Sound m c → Sound m (reprice_row_after m c j k)
   reprice_row_keeps c j k h = unless_keeps (Sound m) (reprice_fault m c.rows j k) (with_row_cost c j k) c (λ e. with_row_cost_sound c j k h (priced c.rows j k e)) h
 
-  with_line_cost_sound : (c : Content) (j k : ℕ) → Sound m c → Cost m k → Sound m (with_line_cost c j k)
+  pub with_line_cost_sound : (c : Content) (j k : ℕ) → Sound m c → Cost m k → Sound m (with_line_cost c j k)
   with_line_cost_sound c j k h p = record {
     some_mode = h.some_mode;
     some_moment = h.some_moment;
@@ -183,17 +178,6 @@ module _ (m : Meaning) where
 
   reprice_line_keeps : (c : Content) (j k : ℕ) → Sound m c → Sound m (reprice_line_after m c j k)
   reprice_line_keeps c j k h = unless_keeps (Sound m) (reprice_fault m c.lines j k) (with_line_cost c j k) c (λ e. with_line_cost_sound c j k h (priced c.lines j k e)) h
-
-  -- the rows, and the lines, as a repricing leaves them
-  pub rows_repriced : (c : Content) (j k : ℕ) (rs : List Row) → rs ≡ unless (reprice_fault m c.rows j k) (changed (row_at_cost k) c.rows j) c.rows → Sound m c → Sound m (content c.modes c.moments rs c.lines)
-  rows_repriced c j k rs e h =
-      let put = λ (xs : List Row). content c.modes c.moments xs c.lines in
-      subst (Sound m) (sym (ap put e ∙ unless_each put (reprice_fault m c.rows j k) (changed (row_at_cost k) c.rows j) c.rows)) (reprice_row_keeps c j k h)
-
-  pub lines_repriced : (c : Content) (j k : ℕ) (ls : List Line) → ls ≡ unless (reprice_fault m c.lines j k) (changed (line_at_cost k) c.lines j) c.lines → Sound m c → Sound m (content c.modes c.moments c.rows ls)
-  lines_repriced c j k ls e h =
-      let put = λ (xs : List Line). content c.modes c.moments c.rows xs in
-      subst (Sound m) (sym (ap put e ∙ unless_each put (reprice_fault m c.lines j k) (changed (line_at_cost k) c.lines j) c.lines)) (reprice_line_keeps c j k h)
 
   pub clear_keeps : (c : Content) → Sound m c → Sound m (without_lines c)
   clear_keeps c h = record {

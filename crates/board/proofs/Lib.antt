@@ -7,6 +7,7 @@ pub mod Walking
 pub mod Refusing
 pub mod Faulting
 pub mod Laws
+pub mod Joining
 pub mod Membership
 pub mod Diagonal
 pub mod Transitions

@@ -3,7 +3,6 @@ use Rattle.std.proofs.Common.{◌≡◌, ℕ, ◌≤◌, true, eqb, ◌⊎◌, L
 use Rattle.std.proofs.lemmas.Bool.{cases_Bool, and_parts, eqb-true}
 use Rattle.costs.specs.Meaning.{Meaning, Lawful, Cost, NoDearer}
 use Rattle.costs.specs.Lists.{joined}
-use Rattle.costs.proofs.Joining.{joined_append}
 use Rattle.board.specs.declared.row.RowKind.{RowKind}
 use Rattle.board.specs.declared.row.RowKind.TheVariants.{Plain, Open, Close, End}
 use Rattle.board.specs.declared.row.Row.{Row}
@@ -15,6 +14,7 @@ use Rattle.board.specs.Content.{Content, Sound}
 use Rattle.board.specs.Moves.{Place, origin, effect_of, Transition}
 use Rattle.board.specs.Paths.{Path, stop, go, Dyck, empty, Balanced, BalancedPath, Complete}
 use Rattle.board.specs.Settling.{Cheaper, bare, Record, Rounds, Settled, ReadingBy, RecordedReading, HasNoReading, Answer}
+use Rattle.board.proofs.Joining.{joined_append}
 use Rattle.board.proofs.Laws.{no_dearer_eq, no_dearer_left, cheaper_no_dearer, cheaper_down}
 use Rattle.board.proofs.Diagonal.{place_eq}
 use Rattle.board.proofs.Candidates.{move_eq}

@@ -2,7 +2,6 @@
 use Rattle.std.proofs.Common.{◌≡◌, ℕ, List, [], ◌∷◌, ◌++◌, sym, refl, ap, ◌∙◌, subst, inl, inr}
 use Rattle.costs.specs.Meaning.{Meaning, Lawful, Cost}
 use Rattle.costs.specs.Lists.{Costs, joined, joined_onto}
-use Rattle.costs.proofs.Joining.{joined_append, joined_cost, onto_total}
 use Rattle.board.specs.declared.moves.Move.{Move}
 use Rattle.board.specs.declared.moves.Effect.{Effect}
 use Rattle.board.specs.declared.moves.Effect.TheVariants.{Quiet, Opens, Closes, Ends}
@@ -10,6 +9,7 @@ use Rattle.board.specs.Content.{Content, Sound}
 use Rattle.board.specs.Moves.{Place}
 use Rattle.board.specs.Paths.{Path, stop, go, Dyck, empty, both, pair, Balanced, Running, BalancedPath}
 use Rattle.board.specs.Settling.{In, Record, start_record, Candidate, step, call, Rounds, begin, round}
+use Rattle.board.proofs.Joining.{joined_append, joined_cost, onto_total}
 use Rattle.board.proofs.Balance.{brackets-++}
 use Rattle.board.proofs.Decomposing.{transition_cost, path_costs}
 use Rattle.board.proofs.Diagonal.{started}

@@ -1,10 +1,10 @@
 -- The log: its entries, its index and its lengths, and what a round makes of it.
-use Rattle.std.specs.Prelude.{◌≡◌, ℕ, suc, ◌+◌, ◌<◌, ◌≤◌, min, Bool, true, false, List, [], ◌∷◌, length, replicate, Some, None, Option, slice_index, slice_index_or, slice_set}
+use Rattle.std.specs.Prelude.{◌≡◌, ℕ, suc, ◌+◌, ◌<◌, ◌≤◌, min, List, [], ◌∷◌, length, replicate, Some, None, Option, slice_index, slice_index_or, slice_set}
 use Rattle.std.proofs.Props.{props}
 use Rattle.board.specs.declared.log.Source.{Source}
 use Rattle.board.specs.declared.log.Source.TheVariants.{Start, Step, Call}
 use Rattle.costs.specs.Meaning.{Meaning, Cost}
-use Rattle.board.specs.Settling.{Round, Rounds, Settled, Record}
+use Rattle.board.specs.Settling.{Round, Rounds, Record}
 use Rattle.board.specs.Content.{Content, Sound}
 use Rattle.board.specs.Moves.{On}
 use Rattle.board.specs.declared.log.Entry.{Entry}
@@ -89,8 +89,3 @@ pub record RoundAdded (m : Meaning) (c : Content) (l l' : Log) : Type 0 where
   pub round : Round m c (records l) added
   pub more : records l' ≡ added ∷ records l
   pub count : l'.count ≡ l.count + 1
-
--- what a round makes of the log: the round's record is added, or the log is settled and stays as it was
-abbrev pub RoundMade : Meaning → Content → Log → Log → Bool → Type 0
-RoundMade m c l l' true = RoundAdded m c l l'
-RoundMade m c l l' false = Settled m c (records l') × (l' ≡ l)

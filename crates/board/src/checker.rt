@@ -1,4 +1,5 @@
 // How far a check has come.
+use crate::bounds::OPEN_BRACKETS;
 use crate::moves::Place;
 use arrayvec::ArrayVec;
 
@@ -7,7 +8,7 @@ mod steps;
 // The brackets that are open, the last one last.
 #[derive(Drop)]
 pub(crate) struct Brackets {
-    open: ArrayVec<u8, 4096>,
+    open: ArrayVec<u8, OPEN_BRACKETS>,
 }
 
 // The place reached, the brackets open there, whether an end row was met, and the costs so far joined. (No optional place

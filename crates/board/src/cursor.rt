@@ -1,4 +1,5 @@
 // A cursor on the moves of an entry, from the last back to the first.
+use crate::bounds::PAIRS;
 use arrayvec::ArrayVec;
 
 mod steps;
@@ -14,5 +15,5 @@ pub(crate) struct Pending {
 #[derive(Drop)]
 pub(crate) struct Cursor {
     at: usize,
-    stack: ArrayVec<Pending, 4096>,
+    stack: ArrayVec<Pending, PAIRS>,
 }

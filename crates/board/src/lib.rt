@@ -1,6 +1,7 @@
 // The board: rows, lines and moves, the draft and its calls, settling, and what a settled board answers.
 #![tactic(auto)]
 
+mod bounds;
 mod check;
 mod checker;
 mod cursor;
@@ -9,7 +10,6 @@ mod log;
 mod moves;
 mod named;
 mod packing;
-mod priced;
 mod reading;
 mod refusal;
 mod row;

@@ -1,4 +1,5 @@
 // The log of settling: an entry for each settled pair of places, in the order of settling.
+use crate::bounds::PAIRS;
 use crate::moves::{Move, Place};
 
 mod calls;
@@ -29,8 +30,8 @@ pub(crate) struct Entry {
 // would take a pair apart.)
 #[derive(Drop)]
 pub(crate) struct Log {
-    pub entries: [Entry; 4096],
+    pub entries: [Entry; PAIRS],
     pub count: usize,
-    pub index: [Option<u16>; 4096],
-    pub lengths: [u32; 4096],
+    pub index: [Option<u16>; PAIRS],
+    pub lengths: [u32; PAIRS],
 }

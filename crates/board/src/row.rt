@@ -1,6 +1,7 @@
 // Rows and lines.
 ghost use Rattle.std.specs.Prelude.{◌≡◌, Some, IfOk};
 ghost use Rattle.std.specs.Option.{ok_or};
+ghost use Rattle.board.specs.Calls.{row_at_cost, line_at_cost};
 ghost use Rattle.board.specs.Rows.{kind_number, kind_of_number, formed};
 
 // What a row does. The numbers are those of the file format.
@@ -86,5 +87,20 @@ impl Row {
             RowKind::Open | RowKind::Close => self.label <= 15 && self.action == 0,
             RowKind::End => self.label == 0 && self.action == 0 && self.from == self.to,
         }
+    }
+    // Sets its cost, and nothing else of it.
+    pub(crate) fn set_cost(&mut self, cost: u32)
+        ensures { self.new ≡ row_at_cost cost self.old }
+    {
+        self.cost = cost;
+    }
+}
+
+impl Line {
+    // Sets its cost, and nothing else of it.
+    pub(crate) fn set_cost(&mut self, cost: u32)
+        ensures { self.new ≡ line_at_cost cost self.old }
+    {
+        self.cost = cost;
     }
 }

@@ -2,6 +2,7 @@
 ghost use Rattle.board.specs.Held.{held};
 ghost use Rattle.board.specs.Logs.{Book, Book-prop};
 
+use crate::bounds::{PAIRS, PLACES, ROWS};
 use crate::log::{Entry, Log};
 use crate::moves::Place;
 use crate::tables::Tables;
@@ -24,8 +25,8 @@ pub(crate) use rounds::settled_log;
 // The least costs of candidates, and of those for unsettled pairs that start at each place.
 #[derive(Drop)]
 pub(crate) struct Waiting {
-    costs: [u32; 4096],
-    least: [u32; 64],
+    costs: [u32; PAIRS],
+    least: [u32; PLACES],
 }
 
 // The least costs beside the log; the worst stands where there is none. Places and pairs go by their numbers.
@@ -36,9 +37,9 @@ pub(crate) struct Waiting {
 // `leads`, by row: whether it is the one to look at for costs among the rows of its sort, the cheapest, or the last of these.
 #[derive(Drop)]
 pub(crate) struct Minima {
-    links: [u32; 4096],
+    links: [u32; PAIRS],
     waiting: Waiting,
-    leads: [bool; 128],
+    leads: [bool; ROWS],
 }
 
 // The log so far and the least costs. The tables are lent to each call. (What holds of both together stays a clause, `state`,

@@ -1,6 +1,7 @@
 // The tables of rows and lines, and their size.
 ghost use Rattle.board.specs.Content.{content, Sound};
 
+use crate::bounds::{LINES, ROWS};
 use crate::row::{Line, Row};
 use arrayvec::ArrayVec;
 use costs::Kind;
@@ -13,8 +14,8 @@ mod calls;
 pub struct Tables<K: Kind> {
     pub(crate) modes: u8,
     pub(crate) moments: u8,
-    pub(crate) rows: ArrayVec<Row, 128>,
-    pub(crate) lines: ArrayVec<Line, 128>,
+    pub(crate) rows: ArrayVec<Row, ROWS>,
+    pub(crate) lines: ArrayVec<Line, LINES>,
     pub(crate) kind: PhantomData<K>,
     ghost sound: { Sound K.meaning (content modes moments rows.items lines.items) },
 }

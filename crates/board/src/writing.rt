@@ -4,6 +4,7 @@ ghost use Rattle.board.specs.Packing.{packed, Small};
 ghost use Rattle.board.specs.Logs.{Spells};
 ghost use Rattle.board.specs.Spelled.{moves_at, move_of};
 
+use crate::bounds::MANY_MOVES;
 use crate::cursor::Cursor;
 use crate::log::Log;
 
@@ -12,7 +13,7 @@ use crate::log::Log;
 pub(crate) fn write_moves(log: &Log, i: usize, out: &mut [u16]) -> usize
     requires spells { Spells log.now }
     requires within { i < log.now.count }
-    requires short { length (moves_at log.now i) < 65536 }
+    requires short { length (moves_at log.now i) < MANY_MOVES }
     requires small { (k : ℕ) → k < length (moves_at log.now i) → Small (move_of log.now i k) }
     requires room { length (moves_at log.now i) ≤ length out.old }
     ensures count { result ≡ length (moves_at log.now i) }

@@ -6,8 +6,8 @@ ghost use Rattle.board.specs.Calls.{size_fault, size_after, row_fault, row_after
 ghost use Rattle.board.specs.Held.{draft_content};
 ghost use Rattle.board.specs.Promises.{BoardPromises};
 
+use crate::bounds::PLACES;
 use crate::draft::Draft;
-use crate::priced::reprice;
 use crate::refusal::Refusal;
 use crate::row::{Line, Row};
 use crate::tables::Tables;
@@ -35,11 +35,10 @@ impl<K: Kind> Draft<K> {
             return Err(Refusal::NotEmpty);
         }
         let places = u64::from(modes) * u64::from(moments);
-        if places == 0 || places > 64 {
+        if places == 0 || places > PLACES as u64 {
             return Err(Refusal::SizeOut);
         }
-        tables.modes = modes as u8;
-        tables.moments = moments as u8;
+        tables.set_size(modes as u8, moments as u8);
         Ok(())
     }
 
@@ -62,7 +61,7 @@ impl<K: Kind> Draft<K> {
             return Err(Refusal::NoCost);
         }
         let n = tables.rows.len();
-        tables.rows.push(row);
+        tables.push_row(row);
         Ok(n)
     }
 
@@ -86,7 +85,7 @@ impl<K: Kind> Draft<K> {
             return Err(Refusal::NoCost);
         }
         let n = tables.lines.len();
-        tables.lines.push(line);
+        tables.push_line(line);
         Ok(n)
     }
 
@@ -95,7 +94,9 @@ impl<K: Kind> Draft<K> {
         ensures answer { result ≡ answer (reprice_fault K.meaning (draft_content self.old).rows n cost) tt }
         ensures after { draft_content self.new ≡ reprice_row_after K.meaning (draft_content self.old) n cost }
     {
-        reprice::<K, _, _>(&mut self.tables.rows, n, cost)
+        may_reprice::<K, _>(&self.tables.rows, n, cost)?;
+        self.tables.set_row_cost(n, cost);
+        Ok(())
     }
 
     // Sets the cost of one line, and of no other.
@@ -103,7 +104,9 @@ impl<K: Kind> Draft<K> {
         ensures answer { result ≡ answer (reprice_fault K.meaning (draft_content self.old).lines n cost) tt }
         ensures after { draft_content self.new ≡ reprice_line_after K.meaning (draft_content self.old) n cost }
     {
-        reprice::<K, _, _>(&mut self.tables.lines, n, cost)
+        may_reprice::<K, _>(&self.tables.lines, n, cost)?;
+        self.tables.set_line_cost(n, cost);
+        Ok(())
     }
 
     // Drops all lines, and answers how many there were.
@@ -112,7 +115,20 @@ impl<K: Kind> Draft<K> {
         ensures after { draft_content self.new ≡ without_lines (draft_content self.old) }
     {
         let n = self.tables.lines.len();
-        self.tables.lines.clear();
+        self.tables.clear_lines();
         n
     }
+}
+
+// Whether item n can be put at this cost: refused where there is no such item, or no such cost.
+fn may_reprice<K: Kind, T>(items: &[T], n: usize, cost: u32) -> Result<(), Refusal>
+    ensures { result ≡ answer (reprice_fault K.meaning items.now n cost) tt }
+{
+    if n >= items.len() {
+        return Err(Refusal::NoSuch);
+    }
+    if !K::is_cost(cost) {
+        return Err(Refusal::NoCost);
+    }
+    Ok(())
 }

@@ -3,6 +3,7 @@ ghost use Rattle.std.specs.Prelude.{◌≡◌, ◌<◌, min, length, None as ANo
 ghost use Rattle.board.specs.Logs.{Spells, pushed, records, empty};
 ghost use Rattle.board.specs.Logged.{Refers, spelled};
 
+use crate::bounds::{MANY_MOVES, PAIRS};
 use crate::log::{Entry, Log, Source};
 
 const BLANK: Entry = Entry {
@@ -18,16 +19,16 @@ impl Log {
         ensures { result ≡ empty }
     {
         Log {
-            entries: [BLANK; 4096],
+            entries: [BLANK; PAIRS],
             count: 0,
-            index: [None; 4096],
-            lengths: [0; 4096],
+            index: [None; PAIRS],
+            lengths: [0; PAIRS],
         }
     }
 
     // The number of the entry of a pair, if it is settled.
     pub(crate) fn at(&self, pair: usize) -> Option<usize>
-        requires { pair < 4096 }
+        requires { pair < PAIRS }
         ensures { result ≡ slice_index_or self.now.index pair ANone }
     {
         self.index[pair].map(usize::from)
@@ -35,8 +36,8 @@ impl Log {
 
     // Settles a pair by an entry that spells out so many moves.
     pub(crate) fn push(&mut self, pair: usize, entry: Entry, moves: u32)
-        requires pair { pair < 4096 }
-        requires room { self.old.count < 4096 }
+        requires pair { pair < PAIRS }
+        requires room { self.old.count < PAIRS }
         ensures { self.new ≡ pushed self.old pair entry moves }
     {
         let k = self.count;
@@ -50,14 +51,14 @@ impl Log {
     pub(crate) fn length_of(&self, source: Source) -> u32
         requires refers { Refers self.now.count source }
         requires spells { Spells self.now }
-        ensures { result ≡ min (length (spelled (records self.now) source)) 65536 }
+        ensures { result ≡ min (length (spelled (records self.now) source)) MANY_MOVES }
     {
         match source {
             Source::Start => 0,
-            Source::Step(front, _) => (self.lengths[front as usize] + 1).min(65536),
+            Source::Step(front, _) => (self.lengths[front as usize] + 1).min(MANY_MOVES),
             Source::Call(front, inside, _, _, _) => (self.lengths[front as usize]
                 + self.lengths[inside as usize]
-                + 2).min(65536),
+                + 2).min(MANY_MOVES),
         }
     }
 }

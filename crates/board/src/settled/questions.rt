@@ -7,6 +7,7 @@ ghost use Rattle.board.specs.Paths.{GrammarIsStack};
 ghost use Rattle.board.specs.Promises.{MovesComputed, OneCost};
 ghost use Rattle.board.specs.Questions.{between_answer, cost_answer, path_answer, path_after, CostMeans, PathMeans, BetweenMeans};
 
+use crate::bounds::MANY_MOVES;
 use crate::check::Fault;
 use crate::moves::Move;
 use crate::refusal::Refusal;
@@ -34,7 +35,7 @@ impl<K: Kind> Settled<K> {
         ensures means { CostMeans K.meaning (settled_content self.now) (settled_records self.now) result }
     {
         let r = self.recorded().ok_or(Refusal::NoReading)?;
-        Ok((r.cost, (self.log.lengths[r.entry] + 1).min(65536)))
+        Ok((r.cost, (self.log.lengths[r.entry] + 1).min(MANY_MOVES)))
     }
 
     // Writes the recorded reading's packed moves to the front of the buffer, and answers how many.
@@ -45,7 +46,7 @@ impl<K: Kind> Settled<K> {
     {
         let r = self.recorded().ok_or(Refusal::NoReading)?;
         let moves = self.log.lengths[r.entry] as usize;
-        if moves >= buffer.len() || moves >= 65535 {
+        if moves >= buffer.len() || moves + 1 >= MANY_MOVES as usize {
             return Err(Refusal::TooLong);
         }
         let n = write_moves(&self.log, r.entry, buffer);

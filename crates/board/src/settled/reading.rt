@@ -4,6 +4,7 @@ ghost use Rattle.board.specs.Boards.{settled_content, settled_records, entry_rec
 ghost use Rattle.board.specs.Computing.{record_between, reading_at, found};
 ghost use Rattle.board.specs.Entries.{EntryIn, ReadingIn};
 
+use crate::bounds::PLACES;
 use crate::moves::{Move, Place};
 use crate::reading::{Reading, better};
 use crate::settled::Settled;
@@ -19,7 +20,7 @@ impl<K: Kind> Settled<K> {
         if from >= places || to >= places {
             return None;
         }
-        self.log.at(from * 64 + to)
+        self.log.at(from * PLACES + to)
     }
 
     // The reading by the row at the place: the record from place 0 to there, and that row, if it is an end row.

@@ -7,6 +7,7 @@ ghost use Rattle.board.specs.Minima.{CandidateAt, PlaceLeast, PlacesLeast};
 ghost use Rattle.board.specs.Minimizing.{WaitingOf, WaitingLower};
 ghost use Rattle.board.specs.Winning.{LeastFrom, LeastOf};
 
+use crate::bounds::{PAIRS, PLACES};
 use crate::log::Log;
 use crate::settling::lower::lower;
 use crate::settling::{Known, Waiting};
@@ -15,13 +16,13 @@ use costs::Kind;
 impl<K: Kind> Known<'_, K> {
     // Lowers what waits for the places numbered s and q to this cost, which a candidate has.
     pub(crate) fn wait(&self, s: usize, q: usize, cost: u32, waiting: &mut Waiting)
-        requires from { s < 64 }
-        requires to { q < 64 }
-        requires some { (cost ≡ K.meaning.worst) ⊎ CandidateAt K.meaning (held self.now.tables.now) self.now.log.now (s * 64 + q) cost }
+        requires from { s < PLACES }
+        requires to { q < PLACES }
+        requires some { (cost ≡ K.meaning.worst) ⊎ CandidateAt K.meaning (held self.now.tables.now) self.now.log.now (s * PLACES + q) cost }
         requires ok { WaitingOf K.meaning self.now waiting.old }
-        ensures { WaitingLower K.meaning self.now waiting.old waiting.new (λ m c l. Just (s * 64 + q) cost) }
+        ensures { WaitingLower K.meaning self.now waiting.old waiting.new (λ m c l. Just (s * PLACES + q) cost) }
     {
-        let p = s * 64 + q;
+        let p = s * PLACES + q;
         if lower::<K>(&mut waiting.costs, p, cost) {
             if self.log.at(p).is_none() {
                 lower::<K>(&mut waiting.least, s, cost);
@@ -31,17 +32,17 @@ impl<K: Kind> Known<'_, K> {
 
     // The cheapest of the unsettled pairs from the place numbered s, found anew.
     pub(crate) fn renew(&self, s: usize, waiting: &mut Waiting)
-        requires from { s < 64 }
-        requires long { length waiting.old.costs ≡ 4096 }
-        requires least_long { length waiting.old.least ≡ 64 }
-        requires costs { (p : ℕ) → p < 4096 → Cost K.meaning (slice_index waiting.old.costs p) }
-        requires others { (t : ℕ) → t < 64 → t ≢ s → PlaceLeast K.meaning self.now.log.now waiting.old.costs t 64 (slice_index waiting.old.least t) }
+        requires from { s < PLACES }
+        requires long { length waiting.old.costs ≡ PAIRS }
+        requires least_long { length waiting.old.least ≡ PLACES }
+        requires costs { (p : ℕ) → p < PAIRS → Cost K.meaning (slice_index waiting.old.costs p) }
+        requires others { (t : ℕ) → t < PLACES → t ≢ s → PlaceLeast K.meaning self.now.log.now waiting.old.costs t PLACES (slice_index waiting.old.least t) }
         ensures costs { waiting.new.costs ≡ waiting.old.costs }
         ensures places { PlacesLeast K.meaning self.now.log.now waiting.new }
     {
         let mut least = K::worst();
-        for q in 0..64 {
-            let p = s * 64 + q;
+        for q in 0..PLACES {
+            let p = s * PLACES + q;
             if self.log.at(p).is_none() && !K::no_dearer(least, waiting.costs[p]) {
                 least = waiting.costs[p];
             }
@@ -52,13 +53,13 @@ impl<K: Kind> Known<'_, K> {
 
 // The first place from which an unsettled pair costs least, below the worst.
 fn least_from<K: Kind>(waiting: &Waiting) -> Option<usize>
-    requires long { length waiting.now.least ≡ 64 }
-    requires costs { (s : ℕ) → s < 64 → Cost K.meaning (slice_index waiting.now.least s) }
-    ensures { LeastFrom K.meaning waiting.now.least 64 result }
+    requires long { length waiting.now.least ≡ PLACES }
+    requires costs { (s : ℕ) → s < PLACES → Cost K.meaning (slice_index waiting.now.least s) }
+    ensures { LeastFrom K.meaning waiting.now.least PLACES result }
 {
     let mut found = None;
     let mut cost = K::worst();
-    for s in 0..64 {
+    for s in 0..PLACES {
         if !K::no_dearer(cost, waiting.least[s]) {
             found = Some(s);
             cost = waiting.least[s];
@@ -69,16 +70,16 @@ fn least_from<K: Kind>(waiting: &Waiting) -> Option<usize>
 
 // Of the unsettled pairs that of the least cost below the worst, the first where some tie.
 pub(crate) fn least_pair<K: Kind>(log: &Log, waiting: &Waiting) -> Option<usize>
-    requires long { length waiting.now.costs ≡ 4096 }
-    requires costs { (p : ℕ) → p < 4096 → Cost K.meaning (slice_index waiting.now.costs p) }
+    requires long { length waiting.now.costs ≡ PAIRS }
+    requires costs { (p : ℕ) → p < PAIRS → Cost K.meaning (slice_index waiting.now.costs p) }
     requires places { PlacesLeast K.meaning log.now waiting.now }
-    ensures { LeastOf K.meaning log.now waiting.now.costs 4096 result }
+    ensures { LeastOf K.meaning log.now waiting.now.costs PAIRS result }
 {
     let Some(s) = least_from::<K>(waiting) else {
         return None;
     };
-    for q in 0..64 {
-        let p = s * 64 + q;
+    for q in 0..PLACES {
+        let p = s * PLACES + q;
         if log.at(p).is_none() && K::no_dearer(waiting.costs[p], waiting.least[s]) {
             return Some(p);
         }

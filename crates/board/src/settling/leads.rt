@@ -4,6 +4,7 @@ ghost use Rattle.board.specs.Moves.{move_row};
 ghost use Rattle.board.specs.Held.{held};
 ghost use Rattle.board.specs.Minima.{sort_like, StandsFor, Led};
 
+use crate::bounds::ROWS;
 use crate::row::Row;
 use crate::tables::Tables;
 use costs::Kind;
@@ -43,9 +44,9 @@ impl<K: Kind> Tables<K> {
 
     // Marks one row of each sort, the cheapest, or the last of these.
     pub(crate) fn mark_leads(&self, leads: &mut [bool])
-        requires { length leads.old ≡ 128 }
+        requires { length leads.old ≡ ROWS }
         ensures led { Led K.meaning (held self.now) leads.new }
-        ensures long { length leads.new ≡ 128 }
+        ensures long { length leads.new ≡ ROWS }
     {
         let rows = self.rows.len() as u8;
         for n in 0..rows {

@@ -3,9 +3,11 @@ ghost use Rattle.std.specs.Prelude.{◌≡◌, ◌+◌, [], ◌∷◌, None as A
 ghost use Rattle.board.specs.Held.{held};
 ghost use Rattle.board.specs.Settling.{Settled};
 ghost use Rattle.board.specs.Logged.{Refers, pair_of, record_of};
-ghost use Rattle.board.specs.Logs.{Kept, Book, records, Reached, RoundMade};
+ghost use Rattle.board.specs.Logs.{Kept, Book, records, Reached, RoundAdded};
 ghost use Rattle.board.specs.Minima.{State};
+ghost use Rattle.board.specs.Winning.{LeastPair};
 
+use crate::bounds::{PAIRS, PLACES, ROWS};
 use crate::log::{Entry, Log, Source};
 use crate::settling::candidates::least_pair;
 use crate::settling::{Goal, Known, Minima, Settling, Waiting};
@@ -21,12 +23,12 @@ impl Settling {
         let mut settling = Settling {
             log: Log::new(),
             minima: Minima {
-                links: [K::worst(); 4096],
+                links: [K::worst(); PAIRS],
                 waiting: Waiting {
-                    costs: [K::worst(); 4096],
-                    least: [K::worst(); 64],
+                    costs: [K::worst(); PAIRS],
+                    least: [K::worst(); PLACES],
                 },
-                leads: [false; 128],
+                leads: [false; ROWS],
             },
         };
         tables.add_links(&mut settling.minima.links);
@@ -79,21 +81,19 @@ impl Settling {
         }
     }
 
-    // Makes one round: settles the least candidate below the worst, or says that there is none.
-    fn round<K: Kind>(&mut self, tables: &Tables<K>) -> bool
+    // Makes one round: settles the pair, for which the least candidate below the worst waits.
+    fn round<K: Kind>(&mut self, tables: &Tables<K>, pair: usize)
         requires state { State K.meaning (held tables.now) self.old.log self.old.minima }
         requires reached { Reached K.meaning (held tables.now) (records self.old.log) }
+        requires least { LeastPair K.meaning self.old.log self.old.minima.waiting.costs PAIRS pair }
         ensures state { State K.meaning (held tables.now) self.new.log self.new.minima }
         ensures reached { Reached K.meaning (held tables.now) (records self.new.log) }
-        ensures made { RoundMade K.meaning (held tables.now) self.old.log self.new.log result }
+        ensures added { RoundAdded K.meaning (held tables.now) self.old.log self.new.log }
     {
         let minima = &self.minima;
-        let Some(pair) = least_pair::<K>(&self.log, &minima.waiting) else {
-            return false;
-        };
         let goal = Goal {
-            from: tables.place(pair / 64),
-            to: tables.place(pair % 64),
+            from: tables.place(pair / PLACES),
+            to: tables.place(pair % PLACES),
             cost: minima.waiting.costs[pair],
         };
         let known = Known {
@@ -108,7 +108,6 @@ impl Settling {
             source,
         };
         self.settle(tables, r);
-        true
     }
 }
 
@@ -120,9 +119,10 @@ pub(crate) fn settled_log<K: Kind>(tables: &Tables<K>) -> Log
     let mut settling = Settling::empty(tables);
     settling.begin(tables);
     'rounds: loop {
-        if !settling.round(tables) {
+        let Some(pair) = least_pair::<K>(&settling.log, &settling.minima.waiting) else {
             break 'rounds;
-        }
+        };
+        settling.round(tables, pair);
     }
     settling.log
 }

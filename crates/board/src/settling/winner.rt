@@ -8,6 +8,7 @@ ghost use Rattle.board.specs.Minima.{Link, Led};
 ghost use Rattle.board.specs.Minimizing.{LinksOf};
 ghost use Rattle.board.specs.Winning.{GoalOn, Makes, Wins, Any};
 
+use crate::bounds::ROWS;
 use crate::log::Source;
 use crate::settling::{Goal, Known};
 use costs::Kind;
@@ -17,7 +18,7 @@ impl<K: Kind> Known<'_, K> {
     pub(crate) fn winner(&self, goal: Goal, leads: &[bool], links: &[u32]) -> Source
         requires on { GoalOn (held self.now.tables.now) goal }
         requires cost { Cost K.meaning goal.cost }
-        requires leads { length leads.now ≡ 128 }
+        requires leads { length leads.now ≡ ROWS }
         requires led { Led K.meaning (held self.now.tables.now) leads.now }
         requires links { LinksOf K.meaning self.now links.now }
         requires links_bounds { Bounds K.meaning (Link K.meaning (held self.now.tables.now) self.now.log.now) links.now }

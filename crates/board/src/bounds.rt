@@ -1,0 +1,20 @@
+// The bounds of a board, of its log and of a check, and of what is told.
+
+// Places, M times T, at most. Places are numbered below it, and a pair of places is numbered by its first place times this, plus
+// its second.
+pub(crate) const PLACES: usize = 64;
+
+// Pairs of places, so entries of a log, and calls that one entry stands inside, at most.
+pub(crate) const PAIRS: usize = PLACES * PLACES;
+
+// Rows at most.
+pub(crate) const ROWS: usize = 128;
+
+// Lines at most.
+pub(crate) const LINES: usize = 128;
+
+// Brackets that a check keeps open at once, at most.
+pub(crate) const OPEN_BRACKETS: usize = 4096;
+
+// The number of moves that stands for itself and for every greater one. A path is written only where it has fewer.
+pub(crate) const MANY_MOVES: u32 = 65_536;
