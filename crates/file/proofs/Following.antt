@@ -16,9 +16,10 @@ use Rattle.file.specs.declared.boards.Board.TheVariants as board
 use Rattle.file.specs.States.{State, draft, settled, edited, on_draft, on_settled, stepped, state_after}
 use Rattle.file.specs.declared.call.Answer.{Answer}
 use Rattle.file.specs.declared.call.Answer.TheVariants as answer
-use Rattle.file.specs.Answers.{draft_answer, settled_answer, settled_buffer, step_answer_draft, step_answer_settled, step_answer, step_buffer, NoteStands}
+use Rattle.file.specs.Answers.{draft_answer, settled_answer, settled_buffer, step_answer_draft, step_answer_settled, step_answer, step_buffer, NoteStands, GivesItsNumbers}
 use Rattle.file.specs.Histories.{state_of, records_of, defined_records, records_defined, Holds, Follows}
 use Rattle.file.proofs.Standing.{asked_stands}
+use Rattle.file.proofs.Numbers.{gives_its_numbers}
 use Rattle.file.proofs.Promising.{state_split, main_promise}
 
 -- what `step` ensures
@@ -29,6 +30,7 @@ Step m b x buffer next told left =
       answer : told ≡ step_answer m (state_of b) (records_of b) x buffer;
       after : left ≡ step_buffer m (state_of b) (records_of b) x buffer;
       note : NoteStands m x told;
+      numbers : GivesItsNumbers;
       history : (calls : List Call) → Holds m calls b → Follows m calls x buffer next told left;
     }
 
@@ -57,6 +59,7 @@ module _ {K : Type 0} {k : Ghosts K} (laws : Lawful k.meaning) (promises : Board
     answer = answer;
     after = written;
     note = note;
+    numbers = gives_its_numbers;
     history = λ calls h.
         let reached : state_of after ≡ state_after k.meaning (calls ++ (x ∷ [])) = state ∙ ap (λ (s : State). stepped k.meaning s x) h ∙ sym (state_split k.meaning (draft new) calls (x ∷ [])) in
         let log : records_of b ≡ defined_records k.meaning (state_after k.meaning calls) = records_defined b ∙ ap (defined_records k.meaning) h in

@@ -12,4 +12,5 @@ pub mod Longest
 pub mod Standing
 pub mod Sounding
 pub mod Promising
+pub mod Numbers
 pub mod Following

@@ -1,13 +1,12 @@
 -- What each call answers, and what it leaves of the buffer.
-use Rattle.std.specs.Prelude.{◌≡◌, ℕ, List, take, drop, length, Some, None, Ok, Err, Option, Result}
+use Rattle.std.specs.Prelude.{◌≡◌, ℕ, List, [], ◌∷◌, take, drop, length, Some, None, Ok, Err, Option, Result}
 use Rattle.costs.specs.Meaning.{Meaning}
-use Rattle.board.specs.declared.refusal.Refusal.{Refusal}
 use Rattle.board.specs.declared.check.Fault.{Fault}
 use Rattle.board.specs.Refusals.{number, answer}
 use Rattle.board.specs.Content.{Content}
 use Rattle.board.specs.Calls.{size_fault, row_fault, line_fault, reprice_fault}
 use Rattle.board.specs.Checks.{check_answer}
-use Rattle.board.specs.Settling.{Record}
+use Rattle.board.specs.Settling.{In, Record}
 use Rattle.board.specs.Questions.{cost_answer, path_answer, path_after, between_answer}
 use Rattle.file.specs.declared.call.Call.{Call}
 use Rattle.file.specs.declared.call.Call.TheVariants.{Size, AddRow, AddLine, RepriceRow, RepriceLine, ClearLines, Load, Settle, Cost, Path, Between, Check, Reopen}
@@ -96,3 +95,23 @@ refused_with (answer.Path r) = number_of number r
 refused_with (answer.Between r) = number_of number r
 refused_with (answer.Checked r) = number_of (λ (f : Fault). number f.refusal) r
 refused_with a = None
+
+-- The numbers of the refusals that each call can give; settle, reopen and clear give none.
+abbrev pub can_give : Call → List ℕ
+can_give (Size modes moments) = 1 ∷ 2 ∷ []
+can_give (AddRow r) = 3 ∷ 4 ∷ 5 ∷ 10 ∷ []
+can_give (AddLine l) = 6 ∷ 7 ∷ 8 ∷ 10 ∷ []
+can_give (RepriceRow i k) = 9 ∷ 10 ∷ []
+can_give (RepriceLine i k) = 9 ∷ 10 ∷ []
+can_give ClearLines = []
+can_give (Load file) = 2 ∷ 3 ∷ 4 ∷ 5 ∷ 6 ∷ 7 ∷ 8 ∷ 10 ∷ 20 ∷ 21 ∷ 22 ∷ 23 ∷ 24 ∷ []
+can_give Settle = []
+can_give Cost = 11 ∷ []
+can_give Path = 11 ∷ 12 ∷ []
+can_give (Between s q) = 13 ∷ 14 ∷ []
+can_give (Check moves) = 15 ∷ 16 ∷ 17 ∷ 18 ∷ 19 ∷ []
+can_give Reopen = []
+
+-- Whatever the state, the records and the buffer: if the answer holds a refusal, its number is one that the call can give.
+abbrev pub GivesItsNumbers : Type 0
+GivesItsNumbers = (m : Meaning) (s : State) (log : List Record) (x : Call) (buffer : List ℕ) (n : ℕ) → refused_with (step_answer m s log x buffer) ≡ Some n → In n (can_give x)

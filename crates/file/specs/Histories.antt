@@ -29,12 +29,12 @@ abbrev pub defined_records : Meaning → State → List Record
 defined_records m (draft c) = []
 defined_records m (settled c) = settled_log m c
 
--- The records of every board are the defined ones.
+-- every board's records are the defined ones of its state
 pub records_defined : {K : Type 0} {k : Ghosts K} (b : Board K k) → records_of b ≡ defined_records k.meaning (state_of b)
 records_defined (board.Drafted d) = refl
 records_defined (board.Settled s) = settled_defined s
 
--- The board is what these calls make of a new one.
+-- The board is what these calls make of a new one: it stands in their state.
 abbrev pub Holds : {K : Type 0} {k : Ghosts K} → Meaning → List Call → Board K k → Type 0
 Holds m calls b = state_of b ≡ state_after m calls
 

@@ -59,7 +59,7 @@ pub enum Answer {
     NotTaken,
     // nothing, or 1 or 2
     Sized(Result<(), Refusal>),
-    // the new row's or line's number, or 3 to 8 or 10
+    // the new row's or line's number, or for a row 3, 4, 5 or 10, for a line 6, 7, 8 or 10
     Added(Result<usize, Refusal>),
     // nothing, or 9 or 10
     Repriced(Result<(), Refusal>),

@@ -4,7 +4,7 @@ ghost use Rattle.board.specs.Held.{draft_content};
 ghost use Rattle.board.specs.Boards.{settled_content, settled_records};
 ghost use Rattle.file.specs.declared.call.Call.{Call};
 ghost use Rattle.file.specs.States.{edited, stepped};
-ghost use Rattle.file.specs.Answers.{draft_answer, settled_answer, settled_buffer, step_answer, step_buffer, NoteStands};
+ghost use Rattle.file.specs.Answers.{draft_answer, settled_answer, settled_buffer, step_answer, step_buffer, NoteStands, GivesItsNumbers};
 ghost use Rattle.file.specs.Histories.{state_of, records_of, Holds, Follows};
 
 use crate::boards::Board;
@@ -56,6 +56,7 @@ pub fn step<K: Kind>(board: Board<K>, call: Call<'_>, buffer: &mut [u16]) -> (Bo
     ensures answer { result.1 ≡ step_answer K.meaning (state_of board) (records_of board) call.entry buffer.old }
     ensures after { buffer.new ≡ step_buffer K.meaning (state_of board) (records_of board) call.entry buffer.old }
     ensures note { NoteStands K.meaning call.entry result.1 }
+    ensures numbers { GivesItsNumbers }
     ensures history { (calls : List Call) → Holds K.meaning calls board → Follows K.meaning calls call.entry buffer.old result.0 result.1 buffer.new }
 {
     // (does nothing: it names what the board promises, on which `history` rests)

@@ -1,5 +1,4 @@
 use Rattle.std.proofs.Common.{◌≡◌, sym, subst, rules}
-use Rattle.std.proofs.lemmas.Grind.{common_steps}
 use Rattle.file.specs.declared.call.Call.{Call}
 use Rattle.file.specs.declared.call.Answer.TheVariants.{Loaded}
 use Rattle.file.specs.Parts.{answered}
