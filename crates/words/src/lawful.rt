@@ -5,5 +5,4 @@ ghost use Rattle.words.specs.Laws.{WordLaws};
 #[tactic(auto, using(crate::proofs::AllLaws::word_laws))]
 pub fn laws()
     ensures { WordLaws }
-{
-}
+{}
