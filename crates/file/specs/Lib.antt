@@ -15,3 +15,4 @@ pub mod Told
 pub mod Easing
 pub mod Promise
 pub mod Histories
+pub mod Laws

@@ -5,6 +5,7 @@ mod boards;
 mod call;
 mod fields;
 mod filling;
+mod lawful;
 mod loading;
 mod part;
 mod reader;
@@ -18,6 +19,7 @@ mod unread;
 
 pub use boards::Board;
 pub use call::{Answer, Call};
+pub use lawful::laws;
 pub use loading::Load;
 pub use part::{Note, Part};
 pub use refusal::{FileRefusal, Layer, LoadFault};
