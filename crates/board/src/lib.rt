@@ -16,6 +16,7 @@ mod row;
 mod settled;
 mod settling;
 mod tables;
+mod theorems;
 mod writing;
 
 pub use check::Fault;
@@ -24,3 +25,4 @@ pub use moves::{Arrival, Effect, Move, Place};
 pub use refusal::Refusal;
 pub use row::{Line, Row, RowKind};
 pub use settled::Settled;
+pub use theorems::board_theorems;

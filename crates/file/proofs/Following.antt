@@ -14,17 +14,21 @@ use Rattle.file.specs.declared.call.Call.TheVariants as call
 use Rattle.file.specs.declared.boards.Board.{Board}
 use Rattle.file.specs.declared.boards.Board.TheVariants as board
 use Rattle.file.specs.States.{State, draft, settled, edited, on_draft, on_settled, stepped, state_after}
-use Rattle.file.specs.Told.{Told, settles, reopened, draft_answer, settled_answer, settled_buffer, step_answer_draft, step_answer_settled, step_answer, step_buffer}
+use Rattle.file.specs.declared.call.Answer.{Answer}
+use Rattle.file.specs.declared.call.Answer.TheVariants as answer
+use Rattle.file.specs.Answers.{draft_answer, settled_answer, settled_buffer, step_answer_draft, step_answer_settled, step_answer, step_buffer, NoteStands}
 use Rattle.file.specs.Histories.{state_of, records_of, defined_records, Holds, Follows}
+use Rattle.file.proofs.Standing.{asked_stands}
 use Rattle.file.proofs.Promising.{state_split, main_promise}
 
 -- what `step` ensures
-abbrev pub Step : {K : Type 0} {k : Ghosts K} → Meaning → Board K k → Call → List ℕ → Board K k → Told → List ℕ → Type 0
+abbrev pub Step : {K : Type 0} {k : Ghosts K} → Meaning → Board K k → Call → List ℕ → Board K k → Answer → List ℕ → Type 0
 Step m b x buffer next told left =
     record {
       state : state_of next ≡ stepped m (state_of b) x;
       answer : told ≡ step_answer m (state_of b) (records_of b) x buffer;
       after : left ≡ step_buffer m (state_of b) (records_of b) x buffer;
+      note : NoteStands m x told;
       history : (calls : List Call) → Holds m calls b → Follows m calls x buffer next told left;
     }
 
@@ -51,11 +55,12 @@ module _ {K : Type 0} {k : Ghosts K} {m : Meaning} (laws : Lawful m) where
   abbrev Kept : Board K k → Board K k → Type 0
   Kept b after = records_of b ≡ defined_records m (state_of b) → records_of after ≡ defined_records m (state_of after)
 
-  follows : (b : Board K k) (x : Call) (buffer : List ℕ) (after : Board K k) (told : Told) (left : List ℕ) → state_of after ≡ stepped m (state_of b) x → told ≡ step_answer m (state_of b) (records_of b) x buffer → left ≡ step_buffer m (state_of b) (records_of b) x buffer → Kept b after → Step m b x buffer after told left
-  follows b x buffer after told left state answer written kept = record {
+  follows : (b : Board K k) (x : Call) (buffer : List ℕ) (after : Board K k) (told : Answer) (left : List ℕ) → state_of after ≡ stepped m (state_of b) x → told ≡ step_answer m (state_of b) (records_of b) x buffer → left ≡ step_buffer m (state_of b) (records_of b) x buffer → NoteStands m x told → Kept b after → Step m b x buffer after told left
+  follows b x buffer after told left state answer written note kept = record {
     state = state;
     answer = answer;
     after = written;
+    note = note;
     history = λ calls h.
         let reached : state_of after ≡ state_after m (calls ++ (x ∷ [])) = state ∙ ap (λ (s : State). stepped m s x) h.state ∙ sym (state_split m (draft new) calls (x ∷ [])) in
         record {
@@ -66,24 +71,24 @@ module _ {K : Type 0} {k : Ghosts K} {m : Meaning} (laws : Lawful m) where
         };
   }
 
-  pub edits : (b : Board K k) (d e : Draft K k) (x : Call) (buffer : List ℕ) (told : Told) → b ≡ board.Drafted d → (x ≡ call.Settle → ⊥) → draft_content e ≡ edited m (draft_content d) x → told ≡ draft_answer m (draft_content d) x → Step m b x buffer (board.Drafted e) told buffer
-  edits b d e x buffer told is other after answer =
+  pub edits : (b : Board K k) (d e : Draft K k) (x : Call) (buffer : List ℕ) (told : Answer) → b ≡ board.Drafted d → (x ≡ call.Settle → ⊥) → draft_content e ≡ edited m (draft_content d) x → told ≡ draft_answer m (draft_content d) x → NoteStands m x told → Step m b x buffer (board.Drafted e) told buffer
+  edits b d e x buffer told is other after answer note =
       subst (λ (b : Board K k). Step m b x buffer (board.Drafted e) told buffer) (sym is)
-      (follows (board.Drafted d) x buffer (board.Drafted e) told buffer (ap draft after ∙ sym (draft_rest m (draft_content d) x other)) (answer ∙ sym (draft_told m (draft_content d) x other)) refl (λ _. refl))
+      (follows (board.Drafted d) x buffer (board.Drafted e) told buffer (ap draft after ∙ sym (draft_rest m (draft_content d) x other)) (answer ∙ sym (draft_told m (draft_content d) x other)) refl note (λ _. refl))
 
-  pub settles_it : (b : Board K k) (d : Draft K k) (s : Settled K k) (x : Call) (buffer : List ℕ) → b ≡ board.Drafted d → x ≡ call.Settle → settled_content s ≡ draft_content d → settled_records s ≡ settled_log m (draft_content d) → Step m b x buffer (board.Settled s) settles buffer
+  pub settles_it : (b : Board K k) (d : Draft K k) (s : Settled K k) (x : Call) (buffer : List ℕ) → b ≡ board.Drafted d → x ≡ call.Settle → settled_content s ≡ draft_content d → settled_records s ≡ settled_log m (draft_content d) → Step m b x buffer (board.Settled s) answer.Settled buffer
   settles_it b d s x buffer is at same computed =
-      subst (λ (b : Board K k). Step m b x buffer (board.Settled s) settles buffer) (sym is)
-      (subst (λ (y : Call). Step m (board.Drafted d) y buffer (board.Settled s) settles buffer) (sym at)
-      (follows (board.Drafted d) call.Settle buffer (board.Settled s) settles buffer (ap settled same) refl refl (λ _. computed ∙ ap (settled_log m) (sym same))))
+      subst (λ (b : Board K k). Step m b x buffer (board.Settled s) answer.Settled buffer) (sym is)
+      (subst (λ (y : Call). Step m (board.Drafted d) y buffer (board.Settled s) answer.Settled buffer) (sym at)
+      (follows (board.Drafted d) call.Settle buffer (board.Settled s) answer.Settled buffer (ap settled same) refl refl tt (λ _. computed ∙ ap (settled_log m) (sym same))))
 
-  pub asks_it : (b : Board K k) (s : Settled K k) (x : Call) (buffer : List ℕ) (told : Told) (left : List ℕ) → b ≡ board.Settled s → (x ≡ call.Reopen → ⊥) → told ≡ settled_answer m (settled_content s) (settled_records s) x buffer → left ≡ settled_buffer m (settled_content s) (settled_records s) x buffer → Step m b x buffer (board.Settled s) told left
+  pub asks_it : (b : Board K k) (s : Settled K k) (x : Call) (buffer : List ℕ) (told : Answer) (left : List ℕ) → b ≡ board.Settled s → (x ≡ call.Reopen → ⊥) → told ≡ settled_answer m (settled_content s) (settled_records s) x buffer → left ≡ settled_buffer m (settled_content s) (settled_records s) x buffer → Step m b x buffer (board.Settled s) told left
   asks_it b s x buffer told left is other answer written =
       subst (λ (b : Board K k). Step m b x buffer (board.Settled s) told left) (sym is)
-      (follows (board.Settled s) x buffer (board.Settled s) told left (sym (settled_rest (settled_content s) x other)) (answer ∙ sym (settled_told m (settled_content s) (settled_records s) x buffer other)) written (λ h. h))
+      (follows (board.Settled s) x buffer (board.Settled s) told left (sym (settled_rest (settled_content s) x other)) (answer ∙ sym (settled_told m (settled_content s) (settled_records s) x buffer other)) written (asked_stands m (settled_content s) (settled_records s) x buffer told answer) (λ h. h))
 
-  pub reopens_it : (b : Board K k) (s : Settled K k) (d : Draft K k) (x : Call) (buffer : List ℕ) → b ≡ board.Settled s → x ≡ call.Reopen → draft_content d ≡ settled_content s → Step m b x buffer (board.Drafted d) reopened buffer
+  pub reopens_it : (b : Board K k) (s : Settled K k) (d : Draft K k) (x : Call) (buffer : List ℕ) → b ≡ board.Settled s → x ≡ call.Reopen → draft_content d ≡ settled_content s → Step m b x buffer (board.Drafted d) answer.Reopened buffer
   reopens_it b s d x buffer is at same =
-      subst (λ (b : Board K k). Step m b x buffer (board.Drafted d) reopened buffer) (sym is)
-      (subst (λ (y : Call). Step m (board.Settled s) y buffer (board.Drafted d) reopened buffer) (sym at)
-      (follows (board.Settled s) call.Reopen buffer (board.Drafted d) reopened buffer (ap draft same) refl refl (λ _. refl)))
+      subst (λ (b : Board K k). Step m b x buffer (board.Drafted d) answer.Reopened buffer) (sym is)
+      (subst (λ (y : Call). Step m (board.Settled s) y buffer (board.Drafted d) answer.Reopened buffer) (sym at)
+      (follows (board.Settled s) call.Reopen buffer (board.Drafted d) answer.Reopened buffer (ap draft same) refl refl tt (λ _. refl)))

@@ -9,6 +9,7 @@ pub mod Tails
 pub mod Beyond
 pub mod Exactly
 pub mod Longest
+pub mod Standing
 pub mod Sounding
 pub mod Promising
 pub mod Following

@@ -11,7 +11,8 @@ use Rattle.file.specs.declared.call.Call.{Call}
 use Rattle.file.specs.declared.boards.Board.{Board}
 use Rattle.file.specs.declared.boards.Board.TheVariants as board
 use Rattle.file.specs.States.{State, draft, settled, state_after}
-use Rattle.file.specs.Told.{Told, step_answer, step_buffer}
+use Rattle.file.specs.declared.call.Answer.{Answer}
+use Rattle.file.specs.Answers.{step_answer, step_buffer}
 use Rattle.file.specs.Promise.{MainPromise}
 
 -- the state of a board
@@ -38,7 +39,7 @@ pub record Holds {K : Type 0} {k : Ghosts K} (m : Meaning) (calls : List Call) (
 
 -- One call more after a history: the board is what all these calls make of a new one, the answer and the buffer are the
 -- defined ones, and the main promise holds of the whole list.
-pub record Follows {K : Type 0} {k : Ghosts K} (m : Meaning) (calls : List Call) (x : Call) (buffer : List ℕ) (after : Board K k) (told : Told) (left : List ℕ) : Type 0 where
+pub record Follows {K : Type 0} {k : Ghosts K} (m : Meaning) (calls : List Call) (x : Call) (buffer : List ℕ) (after : Board K k) (told : Answer) (left : List ℕ) : Type 0 where
   pub holds : Holds m (calls ++ (x ∷ [])) after
   pub answered : told ≡ step_answer m (state_after m calls) (defined_records m (state_after m calls)) x buffer
   pub written : left ≡ step_buffer m (state_after m calls) (defined_records m (state_after m calls)) x buffer

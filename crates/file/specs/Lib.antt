@@ -11,7 +11,7 @@ pub mod Load
 pub mod Layout
 pub mod Examples
 pub mod States
-pub mod Told
+pub mod Answers
 pub mod Easing
 pub mod Promise
 pub mod Histories

@@ -1,4 +1,8 @@
 // Calls on a board, and what they answer.
+ghost use Rattle.std.specs.Prelude.{◌≡◌};
+ghost use Rattle.file.specs.Parts.{piece};
+ghost use Rattle.file.specs.Answers.{span, bytes_at};
+
 use crate::part::Note;
 use crate::refusal::LoadFault;
 use board::{Fault, Line, Refusal, Row};
@@ -21,9 +25,36 @@ pub enum Call<'a> {
     Reopen,
 }
 
+// Where the note of a loaded file stands: the place of its first byte in the file, and how many bytes it has.
+#[derive(Clone, Copy, Debug, PartialEq, Eq)]
+pub struct NoteSpan {
+    pub place: usize,
+    pub length: usize,
+}
+
+impl NoteSpan {
+    // Where this note stands.
+    pub(crate) fn of(note: Note<'_>) -> NoteSpan
+        ensures { result ≡ span (piece note.entry) }
+    {
+        NoteSpan {
+            place: note.place,
+            length: note.bytes.len(),
+        }
+    }
+
+    // The bytes of the file that stand there; of the file that was loaded these are the note's.
+    pub fn bytes<'a>(self, file: &'a [u8]) -> &'a [u8]
+        ensures { result.now ≡ bytes_at self file.now }
+    {
+        let rest = &file[self.place.min(file.len())..];
+        &rest[..self.length.min(rest.len())]
+    }
+}
+
 // What a call answers.
-#[derive(Clone, Copy)]
-pub enum Answer<'a> {
+#[derive(Clone, Copy, Debug, PartialEq, Eq)]
+pub enum Answer {
     // the board does not take this call at this time
     NotTaken,
     // nothing, or 1 or 2
@@ -34,8 +65,8 @@ pub enum Answer<'a> {
     Repriced(Result<(), Refusal>),
     // how many lines were dropped
     Cleared(usize),
-    // the note, or 2 to 8, 10 or 20 to 24, and where
-    Loaded(Result<Note<'a>, LoadFault>),
+    // where the note stands, or 2 to 8, 10 or 20 to 24, and where
+    Loaded(Result<NoteSpan, LoadFault>),
     // settling cannot refuse
     Settled,
     // the cost and the number of moves, or 11

@@ -4,19 +4,20 @@ ghost use Rattle.board.specs.Held.{draft_content};
 ghost use Rattle.board.specs.Boards.{settled_content, settled_records};
 ghost use Rattle.file.specs.declared.call.Call.{Call};
 ghost use Rattle.file.specs.States.{edited, stepped};
-ghost use Rattle.file.specs.Told.{heard, draft_answer, settled_answer, settled_buffer, step_answer, step_buffer};
+ghost use Rattle.file.specs.Answers.{draft_answer, settled_answer, settled_buffer, step_answer, step_buffer, NoteStands};
 ghost use Rattle.file.specs.Histories.{state_of, records_of, Holds, Follows};
 
 use crate::boards::Board;
-use crate::call::{Answer, Call};
+use crate::call::{Answer, Call, NoteSpan};
 use crate::loading::Load;
 use board::{Draft, Settled};
 use costs::Kind;
 
 // A call on a draft, other than settling it.
-fn edit<'a, K: Kind>(draft: &mut Draft<K>, call: Call<'a>) -> Answer<'a>
-    ensures answer { heard result ≡ draft_answer K.meaning (draft_content draft.old) call.entry }
+fn edit<K: Kind>(draft: &mut Draft<K>, call: Call<'_>) -> Answer
+    ensures answer { result ≡ draft_answer K.meaning (draft_content draft.old) call.entry }
     ensures after { draft_content draft.new ≡ edited K.meaning (draft_content draft.old) call.entry }
+    ensures note { NoteStands K.meaning call.entry result }
 {
     match call {
         Call::Size(modes, moments) => Answer::Sized(draft.size(modes, moments)),
@@ -25,7 +26,7 @@ fn edit<'a, K: Kind>(draft: &mut Draft<K>, call: Call<'a>) -> Answer<'a>
         Call::RepriceRow(n, cost) => Answer::Repriced(draft.reprice_row(n, cost)),
         Call::RepriceLine(n, cost) => Answer::Repriced(draft.reprice_line(n, cost)),
         Call::ClearLines => Answer::Cleared(draft.clear_lines()),
-        Call::Load(bytes) => Answer::Loaded(draft.load(bytes)),
+        Call::Load(bytes) => Answer::Loaded(draft.load(bytes).map(|note| NoteSpan::of(note))),
         Call::Settle
         | Call::Cost
         | Call::Path
@@ -36,8 +37,8 @@ fn edit<'a, K: Kind>(draft: &mut Draft<K>, call: Call<'a>) -> Answer<'a>
 }
 
 // A question to a settled board.
-fn ask<'a, K: Kind>(settled: &Settled<K>, call: Call<'_>, buffer: &mut [u16]) -> Answer<'a>
-    ensures answer { heard result ≡ settled_answer K.meaning (settled_content settled.now) (settled_records settled.now) call.entry buffer.old }
+fn ask<K: Kind>(settled: &Settled<K>, call: Call<'_>, buffer: &mut [u16]) -> Answer
+    ensures answer { result ≡ settled_answer K.meaning (settled_content settled.now) (settled_records settled.now) call.entry buffer.old }
     ensures after { buffer.new ≡ settled_buffer K.meaning (settled_content settled.now) (settled_records settled.now) call.entry buffer.old }
 {
     match call {
@@ -50,15 +51,12 @@ fn ask<'a, K: Kind>(settled: &Settled<K>, call: Call<'_>, buffer: &mut [u16]) ->
 }
 
 // One call more on a board; a call that the board does not take at this time leaves board and buffer.
-pub fn step<'a, K: Kind>(
-    board: Board<K>,
-    call: Call<'a>,
-    buffer: &mut [u16],
-) -> (Board<K>, Answer<'a>)
+pub fn step<K: Kind>(board: Board<K>, call: Call<'_>, buffer: &mut [u16]) -> (Board<K>, Answer)
     ensures state { state_of result.0 ≡ stepped K.meaning (state_of board) call.entry }
-    ensures answer { heard result.1 ≡ step_answer K.meaning (state_of board) (records_of board) call.entry buffer.old }
+    ensures answer { result.1 ≡ step_answer K.meaning (state_of board) (records_of board) call.entry buffer.old }
     ensures after { buffer.new ≡ step_buffer K.meaning (state_of board) (records_of board) call.entry buffer.old }
-    ensures history { (calls : List Call) → Holds K.meaning calls board → Follows K.meaning calls call.entry buffer.old result.0 (heard result.1) buffer.new }
+    ensures note { NoteStands K.meaning call.entry result.1 }
+    ensures history { (calls : List Call) → Holds K.meaning calls board → Follows K.meaning calls call.entry buffer.old result.0 result.1 buffer.new }
 {
     match board {
         Board::Drafted(mut draft) => match call {

@@ -12,7 +12,7 @@ ghost use Rattle.report.specs.Worked.{WorkedExamples};
 
 use board::{Draft, Move, Settled};
 use costs::{Kind, KindName, Points, Rank, Severity};
-use file::{Load, laws};
+use file::{Load, file_theorems};
 use std::alloc::{AllocError, Global};
 use std::fmt::Write;
 
@@ -100,7 +100,7 @@ pub fn least(heap: Global, bytes: &[u8]) -> Result<Vec<u8>, AllocError>
     ensures limit { LimitNeverShows }
     ensures examples { WorkedExamples }
 {
-    laws();
+    file_theorems();
     let lines = match kind_of(bytes) {
         KindName::Points => under::<Points>(heap, bytes),
         KindName::Severity => under::<Severity>(heap, bytes),

@@ -6,17 +6,17 @@ use Rattle.board.specs.Settling.{Record}
 use Rattle.file.specs.declared.call.Call.{Call as BoardCall}
 use Rattle.file.specs.declared.call.Call.TheVariants as board
 use Rattle.file.specs.States.{State, draft, settled}
-use Rattle.file.specs.Told.{step_answer, step_buffer}
+use Rattle.file.specs.Answers.{step_answer, step_buffer}
 use Rattle.file.specs.Histories.{defined_records}
 use Rattle.costs.specs.declared.kind_name.KindName.{KindName}
 use Rattle.script.specs.declared.command.Command.{Command}
 use Rattle.script.specs.declared.command.Command.TheVariants.{Kind, Size, AddRow, AddLine, RepriceRow, RepriceLine, ClearLines, Load, Settle, Reopen, Cost, Path, Between, Check}
 use Rattle.script.specs.Calls.{Call, kind, size, row, line, reprice_row, reprice_line, clear, load, settle, reopen, cost, path, between, check, command_of, without_address, on_board}
-use Rattle.script.specs.Telling.{told_text}
+use Rattle.script.specs.Telling.{file_of, told_text}
 use Rattle.script.specs.Printing.{Standing, made_text, board_text, board_after, call_text, call_after}
 
 -- where a call's bytes or moves lie changes nothing
-same_text : (m : Meaning) (s : State) (log : List Record) (x : BoardCall) (buffer : List ℕ) → told_text (step_answer m s log x buffer) (step_buffer m s log x buffer) ≡ told_text (step_answer m s log (without_address x) buffer) (step_buffer m s log (without_address x) buffer)
+same_text : (m : Meaning) (s : State) (log : List Record) (x : BoardCall) (buffer : List ℕ) → told_text (step_answer m s log x buffer) (file_of x) (step_buffer m s log x buffer) ≡ told_text (step_answer m s log (without_address x) buffer) (file_of (without_address x)) (step_buffer m s log (without_address x) buffer)
 same_text m (draft c) log (board.Load bs) buffer = refl
 same_text m (draft c) log (board.Check xs) buffer = refl
 same_text m (draft c) log (board.Size a b) buffer = refl
@@ -45,10 +45,10 @@ same_text m (settled c) log (board.Between s q) buffer = refl
 same_text m (settled c) log board.Reopen buffer = refl
 
 -- the text of a call on a board that holds the defined records
-pub answered_so : (m : Meaning) (s : State) (log : List Record) (x : BoardCall) (o : Option BoardCall) (buffer : List ℕ) → log ≡ defined_records m s → Some (without_address x) ≡ o → told_text (step_answer m s log x buffer) (step_buffer m s log x buffer) ≡ made_text m s o buffer
+pub answered_so : (m : Meaning) (s : State) (log : List Record) (x : BoardCall) (o : Option BoardCall) (buffer : List ℕ) → log ≡ defined_records m s → Some (without_address x) ≡ o → told_text (step_answer m s log x buffer) (file_of x) (step_buffer m s log x buffer) ≡ made_text m s o buffer
 answered_so m s log x o buffer r e =
     same_text m s log x buffer
-    ∙ ap (λ (l : List Record). told_text (step_answer m s l (without_address x) buffer) (step_buffer m s l (without_address x) buffer)) r
+    ∙ ap (λ (l : List Record). told_text (step_answer m s l (without_address x) buffer) (file_of (without_address x)) (step_buffer m s l (without_address x) buffer)) r
     ∙ ap (λ (c : Option BoardCall). made_text m s c buffer) e
 
 -- a vector whose whole slice was written

@@ -7,12 +7,13 @@ use Rattle.costs.specs.Names.{meaning_of}
 use Rattle.board.specs.Content.{new}
 use Rattle.file.specs.declared.call.Call.{Call as BoardCall}
 use Rattle.file.specs.States.{State, draft, stepped, state_after}
-use Rattle.file.specs.Told.{not_taken, step_answer, step_buffer}
+use Rattle.file.specs.declared.call.Answer.TheVariants.{NotTaken}
+use Rattle.file.specs.Answers.{step_answer, step_buffer}
 use Rattle.file.specs.Histories.{defined_records}
 use Rattle.words.specs.Pieces.{newline, pieces_of}
 use Rattle.script.specs.Calls.{Call, kind, path, on_board}
 use Rattle.script.specs.Script.{LineParsed, skip, unreadable, call, script_part_of, line_parsed}
-use Rattle.script.specs.Telling.{told_text}
+use Rattle.script.specs.Telling.{file_of, told_text}
 use Rattle.script.specs.Written.{written, Fits}
 
 -- the board that a script works on: its kind, and its state
@@ -27,7 +28,7 @@ buffer_of c = []
 
 -- what is printed of a call's answer on a board in that state, and of what the call left of the buffer
 abbrev pub answer_text : Meaning → State → BoardCall → List ℕ → List ℕ
-answer_text m s x buffer = told_text (step_answer m s (defined_records m s) x buffer) (step_buffer m s (defined_records m s) x buffer)
+answer_text m s x buffer = told_text (step_answer m s (defined_records m s) x buffer) (file_of x) (step_buffer m s (defined_records m s) x buffer)
 
 -- the same of a call that there may be, and the state after it; without one nothing is printed, and the state stays
 abbrev pub made_text : Meaning → State → Option BoardCall → List ℕ → List ℕ
@@ -41,7 +42,7 @@ made_state m s (Some x) = stepped m s x
 -- what is printed of a call's answer on the board that there is, and the board after it; where no kind was named yet, the
 -- call is not taken
 abbrev pub board_text : Option Standing → Call → List ℕ
-board_text None c = told_text not_taken []
+board_text None c = told_text NotTaken [] []
 board_text (Some s) c = made_text (meaning_of s.kind) s.state (on_board c) (buffer_of c)
 
 abbrev pub board_after : Option Standing → Call → Option Standing

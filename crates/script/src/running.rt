@@ -13,12 +13,12 @@ ghost use Rattle.script.specs.Sessions.{standing, Made, SessionMade};
 use crate::command::Command;
 use crate::error::ParseError;
 use crate::script::{parse, script_part};
-use crate::telling::push_answer;
+use crate::telling::{file_of, push_answer};
 use board::Draft;
 use costs::{Kind, KindName, Points, Rank, Severity};
 use file::{Answer, Board, step};
 use std::alloc::{AllocError, Global};
-use words::{Newline, laws, pieces};
+use words::{Newline, pieces, word_theorems};
 
 // The board that a script works on, by its kind. (An arm for each kind, here and where a call is made: a trait of
 // its own for the two would be longer.)
@@ -69,7 +69,7 @@ fn call_board<K: Kind>(
         return Ok(board);
     };
     let (next, answer) = step(board, call, buffer.as_mut_slice());
-    push_answer(out, answer, buffer.as_slice())?;
+    push_answer(out, answer, file_of(call), buffer.as_slice())?;
     Ok(next)
 }
 
@@ -109,7 +109,7 @@ fn obey(
     out.extend_from_slice(b" -> ")?;
     match session {
         None => {
-            push_answer(out, Answer::NotTaken, &[])?;
+            push_answer(out, Answer::NotTaken, &[], &[])?;
             Ok(None)
         }
         Some(session) => {
@@ -153,7 +153,7 @@ pub fn run(heap: Global, input: &[u8]) -> Result<Vec<u8>, AllocError>
     ensures prints_answers { PrintsAnswers }
     ensures worked { WorkedScripts }
 {
-    laws();
+    word_theorems();
     let lines = pieces::<Newline>(heap, input)?;
     let mut out = Vec::new(heap);
     let mut session = None;

@@ -1,12 +1,10 @@
 // What is printed of a call's answer.
 ghost use Rattle.std.specs.Prelude.{◌≡◌, ◌++◌, OnOk, IfSome};
 ghost use Rattle.std.specs.List.{flat_map};
-ghost use Rattle.file.specs.Parts.{piece};
-ghost use Rattle.file.specs.Told.{heard};
 ghost use Rattle.words.specs.Hex.{written_byte};
-ghost use Rattle.script.specs.Telling.{result_text, spaced_number, note_text, buffer_text, told_text};
+ghost use Rattle.script.specs.Telling.{result_text, spaced_number, file_of, note_text, buffer_text, told_text};
 
-use file::{Answer, Note};
+use file::{Answer, Call, NoteSpan};
 use std::alloc::AllocError;
 use std::fmt::Display;
 use words::{push_hex_byte, push_hex_u16};
@@ -66,22 +64,33 @@ fn push_bytes(out: &mut Vec<u8>, bytes: &[u8]) -> Result<(), AllocError>
     Ok(())
 }
 
-// Adds a note: its place and its bytes.
-fn push_note(out: &mut Vec<u8>, note: Note<'_>) -> Result<(), AllocError>
-    ensures { OnOk result (out.new.items ≡ out.old.items ++ note_text (piece note.entry)) }
+// Adds a note: its place and its bytes, which stand in the file.
+fn push_note(out: &mut Vec<u8>, file: &[u8], note: NoteSpan) -> Result<(), AllocError>
+    ensures { OnOk result (out.new.items ≡ out.old.items ++ note_text file.now note) }
 {
     let text = format!(in *out.allocator(); "note {} ", note.place)?;
     out.extend_from_slice(text.as_bytes())?;
-    push_bytes(out, note.bytes)
+    push_bytes(out, note.bytes(file))
 }
 
-// Adds the answer of a call; `buffer` is the one that stood beside it.
+// The bytes of the file that the call loads; another call has none.
+pub(crate) fn file_of<'a>(call: Call<'a>) -> &'a [u8]
+    ensures { result.now ≡ file_of call.entry }
+{
+    match call {
+        Call::Load(file) => file,
+        _ => &[],
+    }
+}
+
+// Adds the answer of a call; `file` is the one that it loads, and `buffer` the one that stood beside it.
 pub(crate) fn push_answer(
     out: &mut Vec<u8>,
-    answer: Answer<'_>,
+    answer: Answer,
+    file: &[u8],
     buffer: &[u16],
 ) -> Result<(), AllocError>
-    ensures { OnOk result (out.new.items ≡ out.old.items ++ told_text (heard answer.entry) buffer.now) }
+    ensures { OnOk result (out.new.items ≡ out.old.items ++ told_text answer file.now buffer.now) }
 {
     match answer {
         Answer::NotTaken => out.extend_from_slice(b"not taken"),
@@ -89,7 +98,7 @@ pub(crate) fn push_answer(
         Answer::Sized(r) | Answer::Repriced(r) => push_result(out, r.map(|()| "ok")),
         Answer::Added(r) => push_result(out, r),
         Answer::Cleared(n) => push_text(out, &n),
-        Answer::Loaded(Ok(note)) => push_note(out, note),
+        Answer::Loaded(Ok(note)) => push_note(out, file, note),
         Answer::Loaded(Err(fault)) => push_text(out, &fault),
         Answer::Cost(Ok((cost, moves))) => {
             let text = format!(in *out.allocator(); "{cost} {moves}")?;

@@ -1,4 +1,3 @@
-use Rattle.file.specs.Told.{heard}
 use Rattle.file.proofs.Following.{edits, settles_it, asks_it, reopens_it}
 use Rattle.file.proofs.stepping.step.Goals as goal
 
@@ -10,7 +9,7 @@ returns-in-Settle g c =
 pub returns-in_default : goal.returns-in_default
 returns-in_default g c =
     let e = c.edit-answer in
-    edits g.met.K.Kind.lawful c.args.board c.in-Drafted.draft e.new.draft c.args.call c.args.buffer.now (heard e.result) c.in-Drafted.is c.in_default.not-Settle e.ensures.after e.ensures.answer
+    edits g.met.K.Kind.lawful c.args.board c.in-Drafted.draft e.new.draft c.args.call c.args.buffer.now e.result c.in-Drafted.is c.in_default.not-Settle e.ensures.after e.ensures.answer e.ensures.note
 
 pub returns-in-Reopen : goal.returns-in-Reopen
 returns-in-Reopen g c =
@@ -19,4 +18,4 @@ returns-in-Reopen g c =
 pub returns-in_default-call : goal.returns-in_default-call
 returns-in_default-call g c =
     let a = c.ask-answer in
-    asks_it g.met.K.Kind.lawful c.args.board c.in-Settled.settled c.args.call c.args.buffer.now (heard a.result) a.new.buffer c.in-Settled.is c.in_default-call.not-Reopen a.ensures.answer a.ensures.after
+    asks_it g.met.K.Kind.lawful c.args.board c.in-Settled.settled c.args.call c.args.buffer.now a.result a.new.buffer c.in-Settled.is c.in_default-call.not-Reopen a.ensures.answer a.ensures.after

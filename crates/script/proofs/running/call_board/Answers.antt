@@ -1,6 +1,6 @@
-use Rattle.std.proofs.Common.{ℕ, List, ◌++◌, length, sym, ap, ap₂, ◌∙◌}
+use Rattle.std.proofs.Common.{ℕ, List, ◌++◌, length, sym, ap, ◌∙◌}
 use Rattle.std.specs.Option.{option_map}
-use Rattle.file.specs.Told.{step_answer, step_buffer}
+use Rattle.file.specs.Answers.{step_answer, step_buffer}
 use Rattle.file.specs.Histories.{state_of, records_of, defined_records}
 use Rattle.script.specs.Calls.{command_of, on_board, without_address}
 use Rattle.script.specs.Telling.{told_text}
@@ -18,7 +18,9 @@ returns-clause-text g c =
     let x = c.in-Some.call in
     let buffer = c.as_mut_slice.ensures.value ∙ c.in_ok-buffer.ensures in
     let left = c.as_slice.ensures.value ∙ written_over _ _ _ c.in_ok-buffer.buffer.ok.0 (c.step-next.auto.buffer ∙ ap length c.as_mut_slice.ensures.value) in
+    let told = c.step-next.ensures.answer ∙ ap (step_answer m s log x) buffer in
+    let after = left ∙ c.step-next.ensures.after ∙ ap (step_buffer m s log x) buffer in
     c.in_ok-push_answer.ensures
     ∙ ap (λ (t : List ℕ). c.args.out.now.items ++ t)
-    (ap₂ told_text (c.step-next.ensures.answer ∙ ap (step_answer m s log x) buffer) (left ∙ c.step-next.ensures.after ∙ ap (step_buffer m s log x) buffer)
+    ((λ i. told_text (told i) (c.file_of.ensures i) (after i))
     ∙ answered_so m s log x (on_board command) (buffer_of command) (holds.records ∙ ap (defined_records m) (sym holds.state)) (ap (option_map without_address) (sym c.in-Some.is) ∙ c.call.ensures))

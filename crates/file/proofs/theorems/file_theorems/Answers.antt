@@ -1,4 +1,4 @@
-use Rattle.file.proofs.lawful.laws.Goals as goal
+use Rattle.file.proofs.theorems.file_theorems.Goals as goal
 use Rattle.file.proofs.Beyond.{first_bytes}
 
 pub returns : goal.returns
