@@ -1,2 +1,3 @@
 pub mod Working
 pub mod Limit
+pub mod Showing

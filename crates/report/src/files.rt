@@ -3,14 +3,12 @@ ghost use Rattle.std.specs.Prelude.{◌≡◌, ◌++◌, IfOk, OnOk, slice_index
 ghost use Rattle.std.specs.List.{All, flat_map};
 ghost use Rattle.costs.specs.Names.{meaning_of};
 ghost use Rattle.board.specs.Boards.{settled_content, settled_records};
-ghost use Rattle.board.specs.Computing.{settled_log};
 ghost use Rattle.board.specs.Content.{Sound};
-ghost use Rattle.board.specs.Promises.{BoardPromises};
-ghost use Rattle.report.specs.Least.{meaning_under, settled_lines, lines_under, least_lines, PrintsReading, LimitNeverShows};
+ghost use Rattle.report.specs.Least.{meaning_under, cost_line, settled_lines, lines_under, least_lines, PrintsReading, LimitNeverShows};
 ghost use Rattle.report.specs.Packed.{Packs, packed_line};
 ghost use Rattle.report.specs.Worked.{WorkedExamples};
 
-use board::{Draft, Move, Settled};
+use board::{Draft, Move, Settled, board_theorems};
 use costs::{Kind, KindName, Points, Rank, Severity};
 use file::{Load, file_theorems};
 use std::alloc::{AllocError, Global};
@@ -47,13 +45,20 @@ fn push_moves<K: Kind>(
     Ok(())
 }
 
+// The first line: letter, cost and number of moves.
+fn first_line<K: Kind>(heap: Global, cost: u32, moves: u32) -> Result<String, AllocError>
+    ensures { IfOk result (λ s. string_bytes s ≡ cost_line K.meaning.letter cost moves) }
+{
+    let letter = K::letter();
+    format!(in heap; "{letter} {cost} {moves}\n")
+}
+
 // What is printed of a settled board: cost and moves, or why there are none. (A refusal is printed here, and not passed on.)
 fn reading<K: Kind>(heap: Global, settled: &Settled<K>) -> Result<String, AllocError>
     requires sound { Sound K.meaning (settled_content settled.now) }
-    requires defined { settled_records settled.now ≡ settled_log K.meaning (settled_content settled.now) }
-    requires promises { BoardPromises }
     ensures { IfOk result (λ s. string_bytes s ≡ settled_lines K.meaning (settled_content settled.now) (settled_records settled.now)) }
 {
+    board_theorems();
     let (cost, number) = match settled.cost() {
         Ok(answer) => answer,
         Err(refusal) => return format!(in heap; "{refusal}\n"),
@@ -64,8 +69,7 @@ fn reading<K: Kind>(heap: Global, settled: &Settled<K>) -> Result<String, AllocE
         Ok(n) => n,
         Err(refusal) => return format!(in heap; "{refusal}\n"),
     };
-    let letter = K::letter();
-    let mut out = format!(in heap; "{letter} {cost} {number}\n")?;
+    let mut out = first_line::<K>(heap, cost, number)?;
     push_moves(&mut out, settled, &buffer[..n])?;
     Ok(out)
 }

@@ -5,6 +5,6 @@ ghost use Rattle.words.specs.Laws.{WordLaws};
 // names it by a call.
 #[tactic(auto, using(crate::proofs::AllLaws::word_laws))]
 pub fn word_theorems()
-    ensures laws { WordLaws }
+    ensures { WordLaws }
 {
 }
