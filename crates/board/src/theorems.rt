@@ -8,5 +8,4 @@ ghost use Rattle.board.specs.Promises.{BoardPromises};
 pub fn board_theorems()
     ensures promises { BoardPromises }
     ensures packing { PackingIsExact }
-{
-}
+{}
