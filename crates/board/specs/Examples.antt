@@ -11,11 +11,11 @@ use Rattle.board.specs.Settling.{bare}
 use Rattle.board.specs.Computing.{settled_log, found}
 
 -- a row by its kind, modes, label, action and cost
-abbrev row : RowKind → ℕ → ℕ → ℕ → ℕ → ℕ → Row
+abbrev pub row : RowKind → ℕ → ℕ → ℕ → ℕ → ℕ → Row
 row k f t l a x = record { kind = k; from = f; to = t; label = l; action = a; cost = x }
 
 -- a line by its moments, event and cost
-abbrev line : ℕ → ℕ → ℕ → ℕ → Line
+abbrev pub line : ℕ → ℕ → ℕ → ℕ → Line
 line f t e x = record { from = f; to = t; event = e; cost = x }
 
 -- the move by a row with a line

@@ -15,3 +15,4 @@ pub mod Answers
 pub mod Easing
 pub mod Promise
 pub mod Histories
+pub mod Laws

@@ -13,6 +13,7 @@ mod refusal;
 mod replaying;
 mod section;
 mod stepping;
+mod theorems;
 mod trust;
 mod unread;
 
@@ -23,3 +24,4 @@ pub use part::{Note, Part};
 pub use refusal::{FileRefusal, Layer, LoadFault};
 pub use replaying::replay;
 pub use stepping::step;
+pub use theorems::file_theorems;

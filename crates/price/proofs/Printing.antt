@@ -5,7 +5,7 @@ use Rattle.std.proofs.lemmas.List.{drop_more}
 use Rattle.words.specs.Pieces.{newline, pieces_of, NoSeparator}
 use Rattle.price.specs.Lines.{LineAnswer, line_answer}
 use Rattle.price.specs.Report.{printed, line_printed, report_of, LineByLine}
-use Rattle.words.proofs.Cutting.{cuts_apart}
+use Rattle.words.specs.Laws.{WordLaws}
 
 -- what was printed of an outcome that is the line's answer
 pub appended : (out new line : List ℕ) (o : Option LineAnswer) → IfSome o (λ a. a ≡ line_answer line) → IsSomeAnd o (λ a. new ≡ out ++ printed a) → new ≡ out ++ line_printed line
@@ -25,12 +25,13 @@ joined_append [] ys = refl
 joined_append (x ∷ xs) ys =
     ap (λ l. line_printed x ++ l) (joined_append xs ys) ∙ sym (append_assoc (line_printed x) (flat_map line_printed xs) (flat_map line_printed ys))
 
-one_line : (line : List ℕ) → NoSeparator newline line → report_of line ≡ line_printed line
-one_line [] uncut = refl
-one_line (b ∷ bs) uncut = ap (flat_map line_printed) ((cuts_apart newline).one b bs uncut) ∙ append-nil (line_printed (b ∷ bs))
+module _ (laws : WordLaws) where
+  one_line : (line : List ℕ) → NoSeparator newline line → report_of line ≡ line_printed line
+  one_line [] uncut = refl
+  one_line (b ∷ bs) uncut = ap (flat_map line_printed) ((laws.cuts newline).one b bs uncut) ∙ append-nil (line_printed (b ∷ bs))
 
-pub line_by_line : LineByLine
-line_by_line = record {
-  one = one_line;
-  apart = λ xs ys. ap (flat_map line_printed) ((cuts_apart newline).apart xs 10 ys refl) ∙ joined_append (pieces_of newline xs) (pieces_of newline ys);
-}
+  pub line_by_line : LineByLine
+  line_by_line = record {
+    one = one_line;
+    apart = λ xs ys. ap (flat_map line_printed) ((laws.cuts newline).apart xs 10 ys refl) ∙ joined_append (pieces_of newline xs) (pieces_of newline ys);
+  }

@@ -7,8 +7,7 @@ use Rattle.costs.specs.Meaning.{Meaning}
 use Rattle.words.specs.Numbers.{is_digit, all_digits}
 use Rattle.words.specs.Pieces.{spacing, pieces_of, NoSeparator}
 use Rattle.price.specs.Lines.{without_return, largest, kind_with_letter, read_first, read_costs, costs_answer, kind_answer, words_answer, written_costs, Of32Bits, ReadsWritten}
-use Rattle.words.proofs.Cutting.{cuts_apart, uncut_append}
-use Rattle.words.proofs.Digits.{decimal_digits, reads_back}
+use Rattle.words.specs.Laws.{WordLaws}
 
 -- a carriage return
 abbrev returns : ℕ → Bool
@@ -36,36 +35,37 @@ not_return b high = ne_eqb b 13 (λ e. omega arith)
 letter_high : (l : ℕ) (m : Meaning) → kind_with_letter l ≡ Some m → 80 ≤ l
 letter_high l m e = grind (arith, nat_tests)
 
-one_piece : (w : List ℕ) → 0 < length w → NoSeparator spacing w → pieces_of spacing w ≡ w ∷ []
-one_piece [] some uncut = absurd (omega arith)
-one_piece (b ∷ bs) some uncut = (cuts_apart spacing).one b bs uncut
+module _ (laws : WordLaws) where
+  one_piece : (w : List ℕ) → 0 < length w → NoSeparator spacing w → pieces_of spacing w ≡ w ∷ []
+  one_piece [] some uncut = absurd (omega arith)
+  one_piece (b ∷ bs) some uncut = (laws.cuts spacing).one b bs uncut
 
-written_words : (w : List ℕ) (xs : List ℕ) → 0 < length w → NoSeparator spacing w → Of32Bits xs → pieces_of spacing (w ++ written_costs xs) ≡ w ∷ map decimal xs
-written_words w [] some uncut small = ap (pieces_of spacing) (append-nil w) ∙ one_piece w some uncut
-written_words w (x ∷ xs) some uncut small =
-    (cuts_apart spacing).apart w 32 (decimal x ++ written_costs xs) refl
-    ∙ ap (λ ps. ps ++ pieces_of spacing (decimal x ++ written_costs xs)) (one_piece w some uncut)
-    ∙ ap (λ ps. w ∷ ps) (written_words (decimal x) xs (decimal_nonempty x (omega (arith, small.0))) (uncut_digits spacing not_spacing (decimal x) (decimal_digits x (omega (arith, small.0)))) small.1)
+  written_words : (w : List ℕ) (xs : List ℕ) → 0 < length w → NoSeparator spacing w → Of32Bits xs → pieces_of spacing (w ++ written_costs xs) ≡ w ∷ map decimal xs
+  written_words w [] some uncut small = ap (pieces_of spacing) (append-nil w) ∙ one_piece w some uncut
+  written_words w (x ∷ xs) some uncut small =
+      (laws.cuts spacing).apart w 32 (decimal x ++ written_costs xs) refl
+      ∙ ap (λ ps. ps ++ pieces_of spacing (decimal x ++ written_costs xs)) (one_piece w some uncut)
+      ∙ ap (λ ps. w ∷ ps) (written_words (decimal x) xs (decimal_nonempty x (omega (arith, small.0))) (uncut_digits spacing not_spacing (decimal x) (laws.digits x (omega (arith, small.0)))) small.1)
 
-no_return : (xs : List ℕ) → Of32Bits xs → NoSeparator returns (written_costs xs)
-no_return [] small = tt
-no_return (x ∷ xs) small =
-    (refl, uncut_append returns (decimal x) (written_costs xs) (uncut_digits returns not_return (decimal x) (decimal_digits x (omega (arith, small.0)))) (no_return xs small.1))
+  no_return : (xs : List ℕ) → Of32Bits xs → NoSeparator returns (written_costs xs)
+  no_return [] small = tt
+  no_return (x ∷ xs) small =
+      (refl, laws.uncut returns (decimal x) (written_costs xs) (uncut_digits returns not_return (decimal x) (laws.digits x (omega (arith, small.0)))) (no_return xs small.1))
 
-written_numbers : (xs : List ℕ) → Of32Bits xs → read_costs (map decimal xs) ≡ Ok xs
-written_numbers [] small = refl
-written_numbers (x ∷ xs) small =
-    ap (λ o. read_first (decimal x) o (read_costs (map decimal xs))) (reads_back largest (omega arith) x (omega (arith, small.0)))
-    ∙ ap (read_first (decimal x) (Some x)) (written_numbers xs small.1)
+  written_numbers : (xs : List ℕ) → Of32Bits xs → read_costs (map decimal xs) ≡ Ok xs
+  written_numbers [] small = refl
+  written_numbers (x ∷ xs) small =
+      ap (λ o. read_first (decimal x) o (read_costs (map decimal xs))) (laws.numbers_back largest (omega arith) x (omega (arith, small.0)))
+      ∙ ap (read_first (decimal x) (Some x)) (written_numbers xs small.1)
 
-pub reads_written : ReadsWritten
-reads_written l m e xs small =
-    let line = l ∷ written_costs xs in
-    let high = letter_high l m e in
-    let uncut : NoSeparator returns line = (not_return l (omega arith), no_return xs small) in
-    let whole : without_return line ≡ line = cond-false _ _ _ (uncut_at returns refl line (length line - 1) uncut) in
-    let cut = written_words (l ∷ []) xs (omega arith) (not_spacing l (omega arith), tt) small in
-    ap (λ bs. words_answer (pieces_of spacing bs)) whole
-    ∙ ap words_answer cut
-    ∙ ap (λ o. kind_answer (l ∷ []) o (map decimal xs)) e
-    ∙ ap (costs_answer m (map decimal xs)) (written_numbers xs small)
+  pub reads_written : ReadsWritten
+  reads_written l m e xs small =
+      let line = l ∷ written_costs xs in
+      let high = letter_high l m e in
+      let uncut : NoSeparator returns line = (not_return l (omega arith), no_return xs small) in
+      let whole : without_return line ≡ line = cond-false _ _ _ (uncut_at returns refl line (length line - 1) uncut) in
+      let cut = written_words (l ∷ []) xs (omega arith) (not_spacing l (omega arith), tt) small in
+      ap (λ bs. words_answer (pieces_of spacing bs)) whole
+      ∙ ap words_answer cut
+      ∙ ap (λ o. kind_answer (l ∷ []) o (map decimal xs)) e
+      ∙ ap (costs_answer m (map decimal xs)) (written_numbers xs small)

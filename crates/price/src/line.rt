@@ -8,7 +8,7 @@ ghost use Rattle.price.specs.Lines.{without_return, kind_of, read_costs, FirstUn
 use crate::answer::{Answer, Fault, Total};
 use costs::{KindName, Points, Rank, Severity, join_all};
 use std::alloc::Global;
-use words::{Spacing, number, pieces};
+use words::{Spacing, number, pieces, word_theorems};
 
 // The largest number that a cost is written as.
 const LARGEST: u64 = 4_294_967_295;
@@ -75,6 +75,7 @@ pub fn answer<'a>(heap: Global, line: &'a [u8]) -> Answer<'a>
     ensures made { IfSome (answer_of result) (λ a. a ≡ line_answer line.now) }
     ensures reads_written { ReadsWritten }
 {
+    word_theorems();
     let words = pieces::<Spacing>(heap, without_return(line))?;
     words_answer(heap, words.as_slice())
 }

@@ -2,20 +2,13 @@
 #![tactic(auto)]
 
 mod answer;
+mod filtering;
 mod line;
 mod text;
 
-use std::io::{Read, Write};
-
-// From input to output. (Each program has these lines; a library of its own for them would be no plainer.)
-fn run(rt: &HostRuntime) -> anyhow::Result<()> {
-    let mut input = Vec::new(rt.alloc());
-    rt.stdin().read_to_end(&mut input)?;
-    let report = text::report(rt.alloc(), input.as_slice())?;
-    rt.stdout().write_all(report.as_slice())?;
-    Ok(())
-}
+use filtering::filter;
 
 fn main(rt: HostRuntime) -> anyhow::Result<()> {
-    run(&rt)
+    filter(rt.alloc(), &mut rt.stdin(), &mut rt.stdout())?;
+    Ok(())
 }

@@ -6,7 +6,7 @@ ghost use Rattle.price.specs.Report.{word_line, printed, report_of, LineByLine};
 use crate::answer::{Answer, Fault};
 use crate::line::answer;
 use std::alloc::{AllocError, Global};
-use words::{Newline, pieces};
+use words::{Newline, pieces, word_theorems};
 
 // Adds a line of a label and the word. (By bytes, and not by `Display`: the word stands as it was written, and need be no
 // text.)
@@ -42,6 +42,7 @@ pub fn report(heap: Global, input: &[u8]) -> Result<Vec<u8>, AllocError>
     ensures made { IfOk result (λ v. v.items ≡ report_of input.now) }
     ensures line_by_line { LineByLine }
 {
+    word_theorems();
     let lines = pieces::<Newline>(heap, input)?;
     let mut out = Vec::new(heap);
     for line in lines.as_slice() {

@@ -1,2 +1,4 @@
 pub mod Working
 pub mod Limit
+pub mod Showing
+pub mod Streams

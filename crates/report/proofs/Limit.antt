@@ -1,16 +1,16 @@
 -- The bytes that `least` does not read never show.
 use Rattle.std.proofs.Common.{◌≡◌, ℕ, List, [], ◌∷◌, take, get_or, refl, ap, ◌∙◌}
 use Rattle.costs.specs.Meaning.{Meaning}
-use Rattle.file.proofs.Beyond.{first_bytes}
+use Rattle.file.specs.Laws.{FirstBytesTell}
 use Rattle.report.specs.Least.{meaning_under, loaded_lines, lines_under, longest, LimitNeverShows}
 
-under_kind : (m : Meaning) (bytes : List ℕ) → lines_under m (take longest bytes) ≡ lines_under m bytes
-under_kind m bytes = let h = first_bytes m bytes in λ i. loaded_lines m (h.0 i) (h.1 i)
+under_kind : FirstBytesTell → (m : Meaning) (bytes : List ℕ) → lines_under m (take longest bytes) ≡ lines_under m bytes
+under_kind tell m bytes = let h = tell m bytes in λ i. loaded_lines m (h.0 i) (h.1 i)
 
 same_letter : (bytes : List ℕ) → get_or (take longest bytes) 0 80 ≡ get_or bytes 0 80
 same_letter [] = refl
 same_letter (b ∷ bytes) = refl
 
-pub limit_never_shows : LimitNeverShows
-limit_never_shows bytes =
-    under_kind (meaning_under (get_or (take longest bytes) 0 80)) bytes ∙ ap (λ (l : ℕ). lines_under (meaning_under l) bytes) (same_letter bytes)
+pub limit_never_shows : FirstBytesTell → LimitNeverShows
+limit_never_shows tell bytes =
+    under_kind tell (meaning_under (get_or (take longest bytes) 0 80)) bytes ∙ ap (λ (l : ℕ). lines_under (meaning_under l) bytes) (same_letter bytes)

@@ -10,15 +10,37 @@ use Rattle.report.specs.Worked.{WorkedExamples}
 pub worked : WorkedExamples
 unfolding encode digits settled_log found best_rows best_moments record_between row_added line_added records at_end from_note from_lines from_rows sized
 worked = record {
+  joining = record { full_seconds = refl; no_rank = refl; last_rank = refl; too_many_breaches = refl; last_sum = refl; first_worst = refl };
+  settling = record { flight_log = refl; flight_reading = refl };
+  layout = record {
+    header_written = refl;
+    header_taken = refl;
+    row_written = refl;
+    row_taken = refl;
+    halves_up = refl;
+    no_trust = refl;
+    worst_stays = refl;
+    above_is_worst = refl;
+    unscaled = refl;
+    small_written = refl;
+    small_loaded = refl;
+    other_kind = refl;
+    nothing = refl;
+    one_more = refl;
+    no_section = refl;
+  };
   flight_made = refl;
+  flight_made_severity = refl;
+  flight_made_rank = refl;
   flight_cost = refl;
+  flight_moves_packed = refl;
   flight_path = refl;
   flight_written = refl;
   flight_check = refl;
   short_buffer = refl;
   short_left = refl;
-  header = refl;
-  row_one = refl;
+  flight_header = refl;
+  flight_row = refl;
   flight_loaded = refl;
   flight_printed = refl;
   severity_cost = refl;
@@ -29,9 +51,11 @@ worked = record {
   end_cost = refl;
   other_bracket = refl;
   same_bracket = refl;
-  rank_ceiling = refl;
   rank_declined = refl;
   square = refl;
   oblong = refl;
-  halves_up = refl;
+  size_number = refl;
+  cost_number = refl;
+  reading_number = refl;
+  length_number = refl;
 }

@@ -1,18 +1,20 @@
 -- What `least` prints, by what load, settle, cost and path answer.
-use Rattle.std.specs.Prelude.{◌≡◌, ℕ, cond, ◌==◌, List, [], ◌++◌, take, replicate, Some, None, Ok, Err, codes, decimal, Option, Result, slice_index_or}
+use Rattle.std.specs.Prelude.{◌≡◌, ℕ, ◌<◌, ◌≤◌, cond, ◌==◌, List, [], ◌∷◌, ◌++◌, length, take, Some, None, Ok, Err, codes, decimal, Option, Result, nat_le, slice_index_or}
 use Rattle.std.proofs.Math.Utf8.{encode}
 use Rattle.std.specs.List.{flat_map, slice_get}
+use Rattle.std.specs.Option.{option_to_list}
 use Rattle.costs.specs.Meaning.{Meaning}
 use Rattle.costs.specs.Kinds.{points, severity, rank}
 use Rattle.board.specs.declared.row.Row.{Row}
 use Rattle.board.specs.declared.moves.Move.{Move}
 use Rattle.board.specs.declared.refusal.Refusal.{Refusal}
+use Rattle.board.specs.declared.refusal.Refusal.TheVariants.{NoReading, TooLong}
 use Rattle.board.specs.Refusals.{refusal_text}
 use Rattle.board.specs.Content.{Content}
-use Rattle.board.specs.Packing.{unpacked}
-use Rattle.board.specs.Settling.{Record}
-use Rattle.board.specs.Computing.{settled_log}
-use Rattle.board.specs.Questions.{cost_answer, path_answer, path_after}
+use Rattle.board.specs.Moves.{IsMove}
+use Rattle.board.specs.Settling.{Record, RecordedReading}
+use Rattle.board.specs.Computing.{settled_log, ReadingFound, found}
+use Rattle.board.specs.Promises.{NoneBelow}
 use Rattle.file.specs.declared.refusal.LoadFault.{LoadFault}
 use Rattle.file.specs.Refusals.{load_fault_text}
 use Rattle.file.specs.Parts.{Piece}
@@ -34,46 +36,33 @@ no_line e = refusal_text e ++ codes "\n"
 abbrev pub cost_line : ℕ → ℕ → ℕ → List ℕ
 cost_line letter cost moves = encode letter ++ (codes " " ++ (decimal cost ++ (codes " " ++ (decimal moves ++ codes "\n"))))
 
--- a row's action; 0 where there is no row, which is so of no move that path writes
-abbrev pub action_of : Option Row → ℕ
-action_of (Some r) = r.action
-action_of None = 0
-
 -- a move's line in digits, or `-`
 abbrev pub line_word : Option ℕ → List ℕ
 line_word (Some j) = decimal j
 line_word None = codes "-"
 
--- the line of a move: its row, its line or `-`, and the row's action
-abbrev pub move_line : Content → Move → List ℕ
-move_line c v = decimal v.row ++ (codes " " ++ (line_word v.line ++ (codes " " ++ (decimal (action_of (slice_get c.rows v.row)) ++ codes "\n"))))
+-- the line of a move by that row: the row's number, the move's line or `-`, and the row's action
+abbrev pub move_line : Move → Row → List ℕ
+move_line v r = decimal v.row ++ (codes " " ++ (line_word v.line ++ (codes " " ++ (decimal r.action ++ codes "\n"))))
 
--- the line of a move that was taken apart; nothing where the number packs none
-abbrev pub unpacked_line : Content → Option Move → List ℕ
-unpacked_line c (Some v) = move_line c v
-unpacked_line c None = []
+-- the line of a move of a content, by the row that it names
+abbrev pub line_of : Content → Move → List ℕ
+line_of c v = flat_map (move_line v) (option_to_list (slice_get c.rows v.row))
 
--- the line of a packed move
-abbrev pub packed_line : Content → ℕ → List ℕ
-packed_line c n = unpacked_line c (unpacked n)
+-- the most moves of a reading that is printed
+abbrev pub most_moves : ℕ
+most_moves = 4096
 
--- the first line, and those of the moves that path wrote; where path is declined, its refusal alone
-abbrev pub moves_lines : Content → Result ℕ Refusal → List ℕ → List ℕ → List ℕ
-moves_lines c (Ok n) buffer first = first ++ flat_map (packed_line c) (take n buffer)
-moves_lines c (Err e) buffer first = no_line e
+-- what is printed of the recorded reading: a line of its cost, and one line a move; 12 alone where it has too many moves, and
+-- 11 alone where there is none
+abbrev pub reading_lines : Meaning → Content → Option ReadingFound → List ℕ
+reading_lines m c None = no_line NoReading
+reading_lines m c (Some f) =
+    cond (nat_le (length f.moves) most_moves) (cost_line m.letter f.cost (length f.moves) ++ flat_map (line_of c) f.moves) (no_line TooLong)
 
--- a buffer of 4,096 numbers
-abbrev pub empty_buffer : List ℕ
-empty_buffer = replicate 4096 0
-
--- what is printed of a settled board's cost and path
-abbrev pub reading_lines : Meaning → Content → List Record → Result (ℕ × ℕ) Refusal → List ℕ
-reading_lines m c log (Ok a) = moves_lines c (path_answer m c log empty_buffer) (path_after m c log empty_buffer) (cost_line m.letter a.0 a.1)
-reading_lines m c log (Err e) = no_line e
-
--- the same, by its content and its records
+-- the same, by a settled board's content and its records
 abbrev pub settled_lines : Meaning → Content → List Record → List ℕ
-settled_lines m c log = reading_lines m c log (cost_answer m c log)
+settled_lines m c log = reading_lines m c (found m c log)
 
 -- what is printed of a load's answer and the content it left
 abbrev pub loaded_lines : Meaning → Result Piece LoadFault → Content → List ℕ
@@ -95,3 +84,23 @@ longest = 8192
 -- That limit never shows: what is printed of a file's first bytes, so many, is what is printed of all of it.
 abbrev pub LimitNeverShows : Type 0
 LimitNeverShows = (bytes : List ℕ) → least_lines (take longest bytes) ≡ least_lines bytes
+
+-- The lines of these moves on a content, each by the row that it names.
+pub data LinesOf (c : Content) : List Move → List ℕ → Type 0 where
+  none : LinesOf c [] []
+  one_more : {v : Move} {r : Row} {vs : List Move} {text : List ℕ} → IsMove c v.row r → LinesOf c vs text → LinesOf c (v ∷ vs) (move_line v r ++ text)
+
+-- a text that is the lines of these moves, and what is printed: the line of the cost, and that text
+pub record Printed (m : Meaning) (c : Content) (k : ℕ) (vs : List Move) (lines : List ℕ) : Type 0 where
+  pub text : List ℕ
+  pub each : LinesOf c vs text
+  pub whole : lines ≡ cost_line m.letter k (length vs) ++ text
+
+-- What is printed of the file under a kind: where it loads and has a recorded reading of at most 4,096 moves, a line of the
+-- reading's cost and number of moves, and then one line for each of its moves; where that has more moves, or there is none
+-- below the worst, that refusal's number alone; and where it does not load, the fault.
+pub record PrintsReading (m : Meaning) (bytes : List ℕ) : Type 0 where
+  pub reading : (n : Piece) → load_answer m bytes ≡ Ok n → (k : ℕ) (vs : List Move) → RecordedReading m (load_after m bytes) (settled_log m (load_after m bytes)) k vs → length vs ≤ most_moves → Printed m (load_after m bytes) k vs (lines_under m bytes)
+  pub too_long : (n : Piece) → load_answer m bytes ≡ Ok n → (k : ℕ) (vs : List Move) → RecordedReading m (load_after m bytes) (settled_log m (load_after m bytes)) k vs → most_moves < length vs → lines_under m bytes ≡ no_line TooLong
+  pub none : (n : Piece) → load_answer m bytes ≡ Ok n → NoneBelow m (load_after m bytes) → lines_under m bytes ≡ no_line NoReading
+  pub fault : (e : LoadFault) → load_answer m bytes ≡ Err e → lines_under m bytes ≡ bad_line e

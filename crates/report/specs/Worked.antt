@@ -1,51 +1,27 @@
 -- The worked examples, in one table: calls, answers, what is written and what is printed.
-use Rattle.std.specs.Prelude.{◌≡◌, ℕ, List, [], ◌∷◌, ◌++◌, map, replicate, Some, None, Ok, Err, codes}
+use Rattle.std.specs.Prelude.{◌≡◌, ℕ, List, [], ◌∷◌, ◌++◌, map, take, drop, replicate, Some, None, Ok, Err, codes}
 use Rattle.costs.specs.Kinds.{points, severity, rank}
-use Rattle.board.specs.declared.row.RowKind.{RowKind}
-use Rattle.board.specs.declared.row.RowKind.TheVariants.{Plain, Open, Close, End}
-use Rattle.board.specs.declared.row.Row.{Row}
-use Rattle.board.specs.declared.row.Line.{Line}
+use Rattle.costs.specs.Examples.{JoiningExamples}
+use Rattle.board.specs.declared.row.RowKind.TheVariants.{Open, Close, End}
 use Rattle.board.specs.declared.refusal.Refusal.TheVariants.{SizeOut, NoCost, NoReading, TooLong}
+use Rattle.board.specs.Refusals.{number}
 use Rattle.board.specs.Content.{Content, new}
 use Rattle.board.specs.Calls.{size_fault, row_fault, with_row_cost}
 use Rattle.board.specs.Checks.{check_answer}
+use Rattle.board.specs.Examples.{row, flight, flight_moves, SettlingExamples}
+use Rattle.board.specs.Packing.{packed}
 use Rattle.file.specs.declared.call.Call.{Call}
 use Rattle.file.specs.declared.call.Call.TheVariants.{Size, AddRow, AddLine, RepriceRow, Settle, Reopen}
-use Rattle.file.specs.Layout.{header_word, row_word, written}
+use Rattle.file.specs.Examples.{LayoutExamples}
+use Rattle.file.specs.Layout.{written}
 use Rattle.file.specs.Load.{load_after}
-use Rattle.file.specs.Trust.{trusted}
 use Rattle.file.specs.States.{settled, state_after}
 use Rattle.file.specs.Promise.{settled_cost, settled_path, path_left}
 use Rattle.report.specs.Least.{least_lines}
 
--- a row by its kind, modes, label, action and cost, and a line by its moments, event and cost
-abbrev row : RowKind → ℕ → ℕ → ℕ → ℕ → ℕ → Row
-row k f t l a x = record { kind = k; from = f; to = t; label = l; action = a; cost = x }
-
-abbrev line : ℕ → ℕ → ℕ → ℕ → Line
-line f t e x = record { from = f; to = t; event = e; cost = x }
-
--- modes survey 0, hold 1, home 2, and three moments
-abbrev pub flight_rows : List Row
-flight_rows =
-    row Open 0 1 0 0 1
-    ∷ row Plain 1 1 1 7 4
-    ∷ row Plain 1 1 2 8 9
-    ∷ row Close 1 0 0 0 1
-    ∷ row Plain 0 2 2 9 3
-    ∷ row End 2 2 0 0 0
-    ∷ row End 0 0 0 0 20
-    ∷ []
-
-abbrev pub flight_lines : List Line
-flight_lines = line 0 1 1 0 ∷ line 1 2 2 0 ∷ []
-
-abbrev pub flight : Content
-flight = record { modes = 3; moments = 3; rows = flight_rows; lines = flight_lines }
-
 -- the calls that make it of a new board, and those after which row 4 costs 30
 abbrev pub flight_calls : List Call
-flight_calls = Size 3 3 ∷ (map AddRow flight_rows ++ (map AddLine flight_lines ++ (Settle ∷ [])))
+flight_calls = Size 3 3 ∷ (map AddRow flight.rows ++ (map AddLine flight.lines ++ (Settle ∷ [])))
 
 abbrev pub dearer_calls : List Call
 dearer_calls = flight_calls ++ (Reopen ∷ RepriceRow 4 30 ∷ Settle ∷ [])
@@ -54,12 +30,12 @@ abbrev pub dearer : Content
 dearer = with_row_cost flight 4 30
 
 -- the packed moves 0 -, 1 0, 3 -, 4 1, 5 -
-abbrev pub flight_moves : List ℕ
-flight_moves = 0x0000 ∷ 0x0180 ∷ 0x0300 ∷ 0x0481 ∷ 0x0500 ∷ []
+abbrev pub flight_packed : List ℕ
+flight_packed = 0x0000 ∷ 0x0180 ∷ 0x0300 ∷ 0x0481 ∷ 0x0500 ∷ []
 
 -- the file of it
 abbrev pub flight_file : List ℕ
-flight_file = written (record { letter = 80; modes = 3; moments = 3; trust = 16; rows = Some flight_rows; lines = Some flight_lines; note = None })
+flight_file = written (record { letter = 80; modes = 3; moments = 3; trust = 16; rows = Some flight.rows; lines = Some flight.lines; note = None })
 
 -- one end row at mode 0 and cost 0
 abbrev pub one_end : Content
@@ -69,19 +45,31 @@ one_end = record { modes = 1; moments = 1; rows = row End 0 0 0 0 0 ∷ []; line
 abbrev pub two_brackets : ℕ → Content
 two_brackets n = record { modes = 2; moments = 1; rows = row Open 0 1 0 0 2 ∷ row Close 1 1 n 0 3 ∷ row End 1 1 0 0 4 ∷ []; lines = [] }
 
+-- the eight bytes of row 1 in that file: behind the header, the head of the rows, and row 0
+abbrev pub second_row : List ℕ
+second_row = take 8 (drop 14 flight_file)
+
+-- The worked examples: those of joining, of settling and of the layout, and the flight and its neighbours.
 pub record WorkedExamples : Type 0 where
-  -- the calls make the flight; cost 9 with five moves; path writes them into the front of a buffer of seven
+  pub joining : JoiningExamples
+  pub settling : SettlingExamples
+  pub layout : LayoutExamples
+  -- the calls make the flight, under each kind
   pub flight_made : state_after points flight_calls ≡ settled flight
+  pub flight_made_severity : state_after severity flight_calls ≡ settled flight
+  pub flight_made_rank : state_after rank flight_calls ≡ settled flight
+  -- cost 9 with five moves; path writes them into the front of a buffer of seven; the check accepts them
   pub flight_cost : settled_cost points flight ≡ Ok (9, 5)
+  pub flight_moves_packed : map packed flight_moves ≡ flight_packed
   pub flight_path : settled_path points flight (replicate 7 1) ≡ Ok 5
-  pub flight_written : path_left points flight (replicate 7 1) ≡ flight_moves ++ (1 ∷ 1 ∷ [])
-  pub flight_check : check_answer points flight flight_moves ≡ Ok 9
+  pub flight_written : path_left points flight (replicate 7 1) ≡ flight_packed ++ (1 ∷ 1 ∷ [])
+  pub flight_check : check_answer points flight flight_packed ≡ Ok 9
   -- a buffer of four is refused, and left
   pub short_buffer : settled_path points flight (replicate 4 1) ≡ Err TooLong
   pub short_left : path_left points flight (replicate 4 1) ≡ replicate 4 1
-  -- the file begins with this header, row 1 is this word, and it loads to the flight
-  pub header : header_word 80 3 3 16 ≡ 0x50060C10
-  pub row_one : row_word (row Plain 1 1 1 7 4) ≡ 0x0104041C00000004
+  -- the file's first four bytes are this header, row 1 is these eight, it loads to the flight,
+  pub flight_header : take 4 flight_file ≡ 0x50 ∷ 0x06 ∷ 0x0C ∷ 0x10 ∷ []
+  pub flight_row : second_row ≡ 0x01 ∷ 0x04 ∷ 0x04 ∷ 0x1C ∷ 0x00 ∷ 0x00 ∷ 0x00 ∷ 0x04 ∷ []
   pub flight_loaded : load_after points flight_file ≡ flight
   -- and this is printed
   pub flight_printed : least_lines flight_file ≡ codes "P 9 5\n0 - 0\n1 0 7\n3 - 0\n4 1 9\n5 - 0\n"
@@ -97,11 +85,13 @@ pub record WorkedExamples : Type 0 where
   -- a bracket is closed by its own number alone
   pub other_bracket : settled_cost points (two_brackets 1) ≡ Err NoReading
   pub same_bracket : settled_cost points (two_brackets 0) ≡ Ok (9, 3)
-  -- in rank, seconds stop below the next breach, and the number after the last cost is declined
-  pub rank_ceiling : rank.join 2097151 1 ≡ 2097151
+  -- in rank, the number after the last cost is declined
   pub rank_declined : row_fault rank new (row End 0 0 0 0 4293918720) ≡ Some NoCost
   -- 64 places at most
   pub square : size_fault new 8 8 ≡ None
   pub oblong : size_fault new 5 13 ≡ Some SizeOut
-  -- a line at 5 under trust 8
-  pub halves_up : trusted points 8 5 ≡ 3
+  -- the numbers of these refusals
+  pub size_number : number SizeOut ≡ 2
+  pub cost_number : number NoCost ≡ 10
+  pub reading_number : number NoReading ≡ 11
+  pub length_number : number TooLong ≡ 12

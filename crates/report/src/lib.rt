@@ -2,5 +2,7 @@
 #![tactic(auto)]
 
 mod files;
+mod filtering;
 
 pub use files::least;
+pub use filtering::filter;

@@ -11,8 +11,7 @@ use Rattle.words.specs.Hex.{hex_value, then_digit, byte_before, bytes_of, hex_on
 use Rattle.words.specs.Numbers.{all_digits, is_number, number_of, number_before, numbers_of}
 use Rattle.words.specs.Pieces.{spacing, ended, pieces_after, pieces_of, NoSeparator}
 use Rattle.words.specs.Splits.{split_of}
-use Rattle.words.proofs.Cutting.{uncut_append}
-use Rattle.words.proofs.Splitting.{rejoins}
+use Rattle.words.specs.Laws.{WordLaws}
 use Rattle.script.specs.Calls.{Call, kind}
 use Rattle.script.specs.declared.check.Run.{Run}
 use Rattle.script.specs.declared.name.Name.{Name}
@@ -123,23 +122,24 @@ run_some None p r e = absurd cc
 run_some (Some n) None r e = absurd cc
 run_some (Some n) (Some k) r e = (n, refl, k, refl)
 
-run_free : (w : List ℕ) (r : Run) → run_of w ≡ Some r → Free w
-run_free w r e = by (split_of (codes "*") w) refl e
-  where
-    by : (o : Option (List ℕ × List ℕ)) → split_of (codes "*") w ≡ o → split_run w o ≡ Some r → Free w
-    by None at h = let s = run_some _ _ r h in hex_number_free w s.0 s.1
-    by (Some p) at h =
-        let s = run_some _ _ r h in
-        subst Free (sym (rejoins (codes "*") w p.0 p.1 at)) (uncut_append point p.0 (codes "*" ++ p.1) (hex_number_free p.0 s.0 s.1) (refl, number_free _ p.1 s.2 s.3))
+module _ (laws : WordLaws) where
+  run_free : (w : List ℕ) (r : Run) → run_of w ≡ Some r → Free w
+  run_free w r e = by (split_of (codes "*") w) refl e
+    where
+      by : (o : Option (List ℕ × List ℕ)) → split_of (codes "*") w ≡ o → split_run w o ≡ Some r → Free w
+      by None at h = let s = run_some _ _ r h in hex_number_free w s.0 s.1
+      by (Some p) at h =
+          let s = run_some _ _ r h in
+          subst Free (sym (laws.rejoins (codes "*") w p.0 p.1 at)) (laws.uncut point p.0 (codes "*" ++ p.1) (hex_number_free p.0 s.0 s.1) (refl, number_free _ p.1 s.2 s.3))
 
 runs_some : (o : Option Run) (p : Option (List ℕ)) (ms : List ℕ) → run_before o p ≡ Some ms → (r : Run) × (o ≡ Some r) × (ks : List ℕ) × (p ≡ Some ks)
 runs_some None p ms e = absurd cc
 runs_some (Some r) None ms e = absurd cc
 runs_some (Some r) (Some ks) ms e = (r, refl, ks, refl)
 
-runs_free : (ws : List (List ℕ)) (ms : List ℕ) → runs_of ws ≡ Some ms → AllFree ws
-runs_free [] ms e = tt
-runs_free (w ∷ ws) ms e = let s = runs_some (run_of w) (runs_of ws) ms e in (run_free w s.0 s.1, runs_free ws s.2 s.3)
+runs_free : WordLaws → (ws : List (List ℕ)) (ms : List ℕ) → runs_of ws ≡ Some ms → AllFree ws
+runs_free laws [] ms e = tt
+runs_free laws (w ∷ ws) ms e = let s = runs_some (run_of w) (runs_of ws) ms e in (run_free laws w s.0 s.1, runs_free laws ws s.2 s.3)
 
 -- the words after a name
 mapped : {A B : Type 0} (f : A → B) (o : Option A) (y : B) → option_map f o ≡ Some y → (x : A) × (o ≡ Some x)
@@ -175,27 +175,27 @@ file_free (w ∷ v ∷ ws) y e = absurd cc
 rows_free : (ws : List (List ℕ)) (y : Call) → row_call ws ≡ Some y → AllFree ws
 rows_free ws y e = option_and_then_some row_from (numbers_of row_limits ws) y e (λ ns is made. numbers_free row_limits ws ns is)
 
-moves_free : (ws : List (List ℕ)) (y : Call) → check_call ws ≡ Some y → AllFree ws
-moves_free ws y e =
+moves_free : WordLaws → (ws : List (List ℕ)) (y : Call) → check_call ws ≡ Some y → AllFree ws
+moves_free laws ws y e =
     let m = mapped _ (moves_of ws) y e in
     let r = short_list (runs_of ws) m.0 m.1 in
-    runs_free ws r.0 r.1
+    runs_free laws ws r.0 r.1
 
-call_free : (n : Name) (ws : List (List ℕ)) (y : Call) → call_of n ws ≡ Some y → AllFree ws
-call_free name.Kind ws y e = kind_free ws y e
-call_free name.Size ws y e = numbered_free _ two_wide ws y e
-call_free name.Row ws y e = rows_free ws y e
-call_free name.Line ws y e = numbered_free _ line_limits ws y e
-call_free name.RepriceRow ws y e = numbered_free _ two_wide ws y e
-call_free name.RepriceLine ws y e = numbered_free _ two_wide ws y e
-call_free name.Clear ws y e = alone_free _ ws y e
-call_free name.Load ws y e = file_free ws y e
-call_free name.Settle ws y e = alone_free _ ws y e
-call_free name.Reopen ws y e = alone_free _ ws y e
-call_free name.Cost ws y e = alone_free _ ws y e
-call_free name.Path ws y e = numbered_free _ (longest ∷ []) ws y e
-call_free name.Between ws y e = numbered_free _ two_wide ws y e
-call_free name.Check ws y e = moves_free ws y e
+call_free : WordLaws → (n : Name) (ws : List (List ℕ)) (y : Call) → call_of n ws ≡ Some y → AllFree ws
+call_free laws name.Kind ws y e = kind_free ws y e
+call_free laws name.Size ws y e = numbered_free _ two_wide ws y e
+call_free laws name.Row ws y e = rows_free ws y e
+call_free laws name.Line ws y e = numbered_free _ line_limits ws y e
+call_free laws name.RepriceRow ws y e = numbered_free _ two_wide ws y e
+call_free laws name.RepriceLine ws y e = numbered_free _ two_wide ws y e
+call_free laws name.Clear ws y e = alone_free _ ws y e
+call_free laws name.Load ws y e = file_free ws y e
+call_free laws name.Settle ws y e = alone_free _ ws y e
+call_free laws name.Reopen ws y e = alone_free _ ws y e
+call_free laws name.Cost ws y e = alone_free _ ws y e
+call_free laws name.Path ws y e = numbered_free _ (longest ∷ []) ws y e
+call_free laws name.Between ws y e = numbered_free _ two_wide ws y e
+call_free laws name.Check ws y e = moves_free laws ws y e
 
 -- a name
 named_free : (text w : List ℕ) → Free text → (rest : Option Name) (n m : Name) → (rest ≡ Some m → Free w) → cond (spells text w) (Some n) rest ≡ Some m → Free w
@@ -227,10 +227,10 @@ name_free w n e =
     (λ e. absurd cc)))))))))))))) e
 
 -- the words of a line that says a call
-module _ (w : List ℕ) (ws : List (List ℕ)) (c : Call) where
+module _ (laws : WordLaws) (w : List ℕ) (ws : List (List ℕ)) (c : Call) where
   said_free : (n : Name) → name_of w ≡ Some n → (o : Option Call) → call_of n ws ≡ o → call_parsed o ≡ call c → AllFree (w ∷ ws)
   said_free n named None at e = absurd cc
-  said_free n named (Some y) at e = (name_free w n named, call_free n ws y at)
+  said_free n named (Some y) at e = (name_free w n named, call_free laws n ws y at)
 
   named_words : (o : Option Name) → name_of w ≡ o → name_parsed o ws ≡ call c → AllFree (w ∷ ws)
   named_words None named e = absurd cc
@@ -240,11 +240,11 @@ module _ (w : List ℕ) (ws : List (List ℕ)) (c : Call) where
   first_words true e = absurd cc
   first_words false e = named_words (name_of w) refl e
 
-words_free : (ws : List (List ℕ)) (c : Call) → words_parsed ws ≡ call c → AllFree ws
-words_free [] c e = absurd cc
-words_free (w ∷ ws) c e = first_words w ws c (is_comment w) e
+words_free : WordLaws → (ws : List (List ℕ)) (c : Call) → words_parsed ws ≡ call c → AllFree ws
+words_free laws [] c e = absurd cc
+words_free laws (w ∷ ws) c e = first_words laws w ws c (is_comment w) e
 
-pub said_again : (line answer : List ℕ) (c : Call) → line_parsed line ≡ call c → line_parsed (script_part_of line ++ (codes " -> " ++ answer)) ≡ call c
-said_again line answer c e =
+pub said_again : WordLaws → (line answer : List ℕ) (c : Call) → line_parsed line ≡ call c → line_parsed (script_part_of line ++ (codes " -> " ++ answer)) ≡ call c
+said_again laws line answer c e =
     let part = script_part_of line in
-    line_answered part answer (pieces_free [] part (words_free (pieces_of spacing part) c e)).1 ∙ e
+    line_answered laws part answer (pieces_free [] part (words_free laws (pieces_of spacing part) c e)).1 ∙ e

@@ -8,7 +8,7 @@ use Rattle.board.specs.Content.{new}
 use Rattle.file.specs.declared.call.Call.{Call as BoardCall}
 use Rattle.file.specs.States.{State, draft, stepped, state_from, state_after}
 use Rattle.words.specs.Pieces.{newline, pieces_of}
-use Rattle.words.proofs.Cutting.{cuts_apart}
+use Rattle.words.specs.Laws.{WordLaws}
 use Rattle.script.specs.Calls.{Call, kind, on_board}
 use Rattle.script.specs.Script.{script_part_of, line_parsed, LineParsed}
 use Rattle.script.specs.Written.{written, Fits}
@@ -29,42 +29,45 @@ printed_on s (l ∷ ls) ys =
     let next = line_after s (line_parsed l) in
     ap (λ (t : List ℕ). first ++ t) (printed_on next ls ys) ∙ sym (append_assoc first (printed_from next ls) (printed_from (after_lines next ls) ys))
 
--- the line of a call
-call_line : (s : Option Standing) (c : Call) → Fits c → line_text s (script_part_of (written c)) (line_parsed (written c)) ≡ written c ++ (call_text s c ++ codes "\n")
-call_line s c fits = ap₂ (line_text s) (whole_line c fits) (reads_written.alone c fits)
+-- a board of the kind in that state
+abbrev at : KindName → State → Option Standing
+at k s = Some (record { kind = k; state = s })
 
--- the board after calls
-module _ (k : KindName) where
-  abbrev at : State → Option Standing
-  at s = Some (record { kind = k; state = s })
+-- lines of calls
+module _ (laws : WordLaws) where
+  -- the line of a call
+  call_line : (s : Option Standing) (c : Call) → Fits c → line_text s (script_part_of (written c)) (line_parsed (written c)) ≡ written c ++ (call_text s c ++ codes "\n")
+  call_line s c fits = ap₂ (line_text s) (whole_line laws c fits) ((reads_written laws).alone c fits)
 
-  calls_after : (s : State) (cs : List Call) (xs : List BoardCall) → AllByRecursion Fits cs → map on_board cs ≡ map Some xs → after_lines (at s) (map written cs) ≡ at (state_from (meaning_of k) s xs)
-  calls_after s [] [] fits e = refl
-  calls_after s [] (x ∷ xs) fits e = absurd cc
-  calls_after s (c ∷ cs) [] fits e = absurd cc
-  calls_after s (c ∷ cs) (x ∷ xs) fits e =
-      let here : on_board c ≡ Some x = cc in
-      let there : map on_board cs ≡ map Some xs = cc in
-      let next = ap (line_after (at s)) (reads_written.alone c fits.0) ∙ (board_call (at s) c x here).1 ∙ ap (λ (o : Option BoardCall). at (made_state (meaning_of k) s o)) here in
-      ap (λ (t : Option Standing). after_lines t (map written cs)) next ∙ calls_after (stepped (meaning_of k) s x) cs xs fits.1 there
+  -- the board after calls
+  module _ (k : KindName) where
+    calls_after : (s : State) (cs : List Call) (xs : List BoardCall) → AllByRecursion Fits cs → map on_board cs ≡ map Some xs → after_lines (at k s) (map written cs) ≡ at k (state_from (meaning_of k) s xs)
+    calls_after s [] [] fits e = refl
+    calls_after s [] (x ∷ xs) fits e = absurd cc
+    calls_after s (c ∷ cs) [] fits e = absurd cc
+    calls_after s (c ∷ cs) (x ∷ xs) fits e =
+        let here : on_board c ≡ Some x = cc in
+        let there : map on_board cs ≡ map Some xs = cc in
+        let next = ap (line_after (at k s)) ((reads_written laws).alone c fits.0) ∙ (board_call (at k s) c x here).1 ∙ ap (λ (o : Option BoardCall). at k (made_state (meaning_of k) s o)) here in
+        ap (λ (t : Option Standing). after_lines t (map written cs)) next ∙ calls_after (stepped (meaning_of k) s x) cs xs fits.1 there
 
-  -- what is printed from a line on that names the kind
-  kind_line : (s : Option Standing) (rest : List ℕ) → printed_from s (pieces_of newline (written (kind k) ++ (codes "\n" ++ rest))) ≡ (written (kind k) ++ codes "\n") ++ printed_from (at (draft new)) (pieces_of newline rest)
-  kind_line s rest =
-      ap (printed_from s) (line_first (kind k) tt rest)
-      ∙ ap₂ (λ (t : List ℕ) (p : LineParsed). t ++ printed_from (line_after s p) (pieces_of newline rest)) (call_line s (kind k) tt) (reads_written.alone (kind k) tt)
+    -- what is printed from a line on that names the kind
+    kind_line : (s : Option Standing) (rest : List ℕ) → printed_from s (pieces_of newline (written (kind k) ++ (codes "\n" ++ rest))) ≡ (written (kind k) ++ codes "\n") ++ printed_from (at k (draft new)) (pieces_of newline rest)
+    kind_line s rest =
+        ap (printed_from s) (line_first laws (kind k) tt rest)
+        ∙ ap₂ (λ (t : List ℕ) (p : LineParsed). t ++ printed_from (line_after s p) (pieces_of newline rest)) (call_line s (kind k) tt) ((reads_written laws).alone (kind k) tt)
 
-  -- a script that names the kind first
-  named_first : (cs : List Call) → AllByRecursion Fits cs → printed (script_of (kind k ∷ cs)) ≡ (written (kind k) ++ codes "\n") ++ printed_from (at (draft new)) (map written cs)
-  named_first cs fits = kind_line None (script_of cs) ∙ ap (λ (ls : List (List ℕ)). (written (kind k) ++ codes "\n") ++ printed_from (at (draft new)) ls) (lines_cut cs fits)
+    -- a script that names the kind first
+    named_first : (cs : List Call) → AllByRecursion Fits cs → printed (script_of (kind k ∷ cs)) ≡ (written (kind k) ++ codes "\n") ++ printed_from (at k (draft new)) (map written cs)
+    named_first cs fits = kind_line None (script_of cs) ∙ ap (λ (ls : List (List ℕ)). (written (kind k) ++ codes "\n") ++ printed_from (at k (draft new)) ls) (lines_cut laws cs fits)
 
 fits_on : (cs : List Call) (c : Call) → AllByRecursion Fits cs → Fits c → AllByRecursion Fits (cs ++ (c ∷ []))
 fits_on [] c fits last = (last, tt)
 fits_on (b ∷ cs) c fits last = (fits.0, fits_on cs c fits.1 last)
 
-pub prints_answers : PrintsAnswers
-prints_answers = record {
-  begins = λ k. named_first k [] tt ∙ append-nil (written (kind k) ++ codes "\n");
+pub prints_answers : WordLaws → PrintsAnswers
+prints_answers laws = record {
+  begins = λ k. named_first laws k [] tt ∙ append-nil (written (kind k) ++ codes "\n");
   one_more = λ k before xs c x fits same last is.
       let m = meaning_of k in
       let first = written (kind k) ++ codes "\n" in
@@ -74,19 +77,19 @@ prints_answers = record {
       let answer = answer_text m (state_after m xs) x (buffer_of c) in
       let line : printed_from after (written c ∷ []) ≡ answered_line c answer =
       append-nil _
-      ∙ call_line after c last
+      ∙ call_line laws after c last
       ∙ ap (λ (t : List ℕ). written c ++ (t ++ codes "\n")) ((board_call after c x is).0 ∙ ap (λ (o : Option BoardCall). codes " -> " ++ made_text m (state_after m xs) o (buffer_of c)) is)
       ∙ ap (λ (t : List ℕ). written c ++ t) (append_assoc (codes " -> ") answer (codes "\n")) in
-      named_first k (before ++ (c ∷ [])) (fits_on before c fits last)
+      named_first laws k (before ++ (c ∷ [])) (fits_on before c fits last)
       ∙ ap (λ (ls : List (List ℕ)). first ++ printed_from from ls) (map-append written before (c ∷ []))
       ∙ ap (λ (t : List ℕ). first ++ t) (printed_on from (map written before) (written c ∷ []))
-      ∙ ap (λ (s : Option Standing). first ++ (lines ++ printed_from s (written c ∷ []))) (calls_after k (draft new) before xs fits same)
+      ∙ ap (λ (s : Option Standing). first ++ (lines ++ printed_from s (written c ∷ []))) (calls_after laws k (draft new) before xs fits same)
       ∙ ap (λ (t : List ℕ). first ++ (lines ++ t)) line
       ∙ sym (append_assoc first lines (answered_line c answer))
-      ∙ ap (λ (t : List ℕ). t ++ answered_line c answer) (sym (named_first k before fits));
+      ∙ ap (λ (t : List ℕ). t ++ answered_line c answer) (sym (named_first laws k before fits));
   anew = λ k before rest.
       let lines = pieces_of newline before in
-      ap (printed_from None) ((cuts_apart newline).apart before 10 (written (kind k) ++ (codes "\n" ++ rest)) refl)
+      ap (printed_from None) ((laws.cuts newline).apart before 10 (written (kind k) ++ (codes "\n" ++ rest)) refl)
       ∙ printed_on None lines (pieces_of newline (written (kind k) ++ (codes "\n" ++ rest)))
-      ∙ ap (λ (t : List ℕ). printed before ++ t) (kind_line k (after_lines None lines) rest ∙ sym (kind_line k None rest));
+      ∙ ap (λ (t : List ℕ). printed before ++ t) (kind_line laws k (after_lines None lines) rest ∙ sym (kind_line laws k None rest));
 }

@@ -4,13 +4,21 @@ use Rattle.std.proofs.lemmas.Bool.{cond-true, cond-false, cases_Bool, eqb-false,
 use Rattle.words.specs.Pieces.{spacing, pieces_of, NoSeparator}
 use Rattle.words.specs.Splits.{after_mark, longer, split_here, split_of}
 use Rattle.words.specs.Trims.{trimmed_of}
-use Rattle.words.proofs.Splitting.{longer_by, longer_none}
-use Rattle.words.proofs.Trimming.{same_pieces}
+use Rattle.words.specs.Laws.{WordLaws}
 use Rattle.script.specs.Script.{before_split, words_parsed, line_parsed}
 use Rattle.script.proofs.Plain.{point, star}
 
 abbrev arrow : List ℕ
 arrow = codes " -> "
+
+-- bytes in front of a split
+abbrev longer_by : List ℕ → Option (List ℕ × List ℕ) → Option (List ℕ × List ℕ)
+longer_by xs None = None
+longer_by xs (Some p) = Some (xs ++ p.0, p.1)
+
+longer_none : (o : Option (List ℕ × List ℕ)) → longer_by [] o ≡ o
+longer_none None = refl
+longer_none (Some p) = refl
 
 turned : (a b : ℕ) → eqb b a ≡ false → eqb a b ≡ false
 turned a b e = ne_eqb a b (λ same. eqb-false b a e (sym same))
@@ -52,16 +60,17 @@ pub no_arrow_split : (xs : List ℕ) → NoSeparator point xs → split_of arrow
 no_arrow_split xs free = ap (split_of arrow) (sym (append-nil xs)) ∙ split_tail [] refl refl xs free
 
 -- it says what its words say, and so it does with an answer behind an arrow
-pub line_alone : (xs : List ℕ) → NoSeparator point xs → line_parsed xs ≡ words_parsed (pieces_of spacing xs)
-line_alone xs free =
-    ap (λ o. words_parsed (pieces_of spacing (trimmed_of spacing (before_split xs o)))) (no_arrow_split xs free)
-    ∙ ap words_parsed (same_pieces spacing xs)
+module _ (laws : WordLaws) where
+  pub line_alone : (xs : List ℕ) → NoSeparator point xs → line_parsed xs ≡ words_parsed (pieces_of spacing xs)
+  line_alone xs free =
+      ap (λ o. words_parsed (pieces_of spacing (trimmed_of spacing (before_split xs o)))) (no_arrow_split xs free)
+      ∙ ap words_parsed (laws.trims spacing xs)
 
-pub line_answered : (xs answer : List ℕ) → NoSeparator point xs → line_parsed (xs ++ (arrow ++ answer)) ≡ words_parsed (pieces_of spacing xs)
-line_answered xs answer free =
-    ap (λ o. words_parsed (pieces_of spacing (trimmed_of spacing (before_split (xs ++ (arrow ++ answer)) o)))) (split_tail (arrow ++ answer) refl refl xs free)
-    ∙ ap words_parsed (same_pieces spacing (xs ++ []))
-    ∙ ap (λ l. words_parsed (pieces_of spacing l)) (append-nil xs)
+  pub line_answered : (xs answer : List ℕ) → NoSeparator point xs → line_parsed (xs ++ (arrow ++ answer)) ≡ words_parsed (pieces_of spacing xs)
+  line_answered xs answer free =
+      ap (λ o. words_parsed (pieces_of spacing (trimmed_of spacing (before_split (xs ++ (arrow ++ answer)) o)))) (split_tail (arrow ++ answer) refl refl xs free)
+      ∙ ap words_parsed (laws.trims spacing (xs ++ []))
+      ∙ ap (λ l. words_parsed (pieces_of spacing l)) (append-nil xs)
 
 -- a word with no star
 pub no_star_split : (xs : List ℕ) → NoSeparator star xs → split_of (codes "*") xs ≡ None

@@ -5,7 +5,7 @@ use Rattle.std.proofs.lemmas.List.{reverse-append, reverse-reverse, length-rever
 use Rattle.std.proofs.lemmas.Bool.{cond-false}
 use Rattle.words.specs.Pieces.{spacing, newline, pieces_of, NoSeparator}
 use Rattle.words.specs.Trims.{without_front, without_back, trimmed_of}
-use Rattle.words.proofs.Cutting.{cuts_apart, uncut_append}
+use Rattle.words.specs.Laws.{WordLaws}
 use Rattle.script.specs.Calls.{Call}
 use Rattle.script.specs.Script.{before_split, script_part_of}
 use Rattle.script.specs.Written.{spaced, name_word, words_after, written, Fits}
@@ -15,14 +15,14 @@ use Rattle.script.proofs.Arrows.{no_arrow_split}
 use Rattle.script.proofs.Writing.{plain_name, plain_words, written_without, unpointed}
 
 -- separators at neither end are none to take away
-module _ (sep : ℕ → Bool) where
+module _ (laws : WordLaws) (sep : ℕ → Bool) where
   front_kept : (w xs : List ℕ) → 0 < length w → NoSeparator sep w → without_front sep (w ++ xs) ≡ w ++ xs
   front_kept [] xs some free = absurd (omega (arith, some))
   front_kept (b ∷ w) xs some free = cond-false _ _ _ free.0
 
   turned_free : (w : List ℕ) → NoSeparator sep w → NoSeparator sep (reverse w)
   turned_free [] free = tt
-  turned_free (b ∷ w) free = subst (NoSeparator sep) (sym (reverse-append (b ∷ []) w)) (uncut_append sep (reverse w) (b ∷ []) (turned_free w free.1) (free.0, tt))
+  turned_free (b ∷ w) free = subst (NoSeparator sep) (sym (reverse-append (b ∷ []) w)) (laws.uncut sep (reverse w) (b ∷ []) (turned_free w free.1) (free.0, tt))
 
   back_kept : (xs w : List ℕ) → 0 < length w → NoSeparator sep w → without_back sep (xs ++ w) ≡ xs ++ w
   back_kept xs w some free =
@@ -31,29 +31,31 @@ module _ (sep : ℕ → Bool) where
       ∙ ap reverse (sym (reverse-append xs w))
       ∙ reverse-reverse (xs ++ w)
 
--- a line of plain words is not trimmed
-line_kept : (w : List ℕ) (ws : List (List ℕ)) → Plain w → AllByRecursion Plain ws → trimmed_of spacing (w ++ spaced ws) ≡ w ++ spaced ws
-unfolding trimmed_of
-line_kept w ws plain plains =
-    let e = line_ends w ws plain plains in
-    ap (without_back spacing) (front_kept spacing w (spaced ws) plain.0 (fewer reserved spacing no_spacing w plain.1))
-    ∙ ap (without_back spacing) e.is
-    ∙ back_kept spacing e.front e.last e.plain.0 (fewer reserved spacing no_spacing e.last e.plain.1)
-    ∙ sym e.is
+-- lines of calls
+module _ (laws : WordLaws) where
+  -- a line of plain words is not trimmed
+  line_kept : (w : List ℕ) (ws : List (List ℕ)) → Plain w → AllByRecursion Plain ws → trimmed_of spacing (w ++ spaced ws) ≡ w ++ spaced ws
+  unfolding trimmed_of
+  line_kept w ws plain plains =
+      let e = line_ends w ws plain plains in
+      ap (without_back spacing) (front_kept laws spacing w (spaced ws) plain.0 (fewer reserved spacing no_spacing w plain.1))
+      ∙ ap (without_back spacing) e.is
+      ∙ back_kept laws spacing e.front e.last e.plain.0 (fewer reserved spacing no_spacing e.last e.plain.1)
+      ∙ sym e.is
 
--- the whole line of a call is the script
-pub whole_line : (c : Call) → Fits c → script_part_of (written c) ≡ written c
-whole_line c fits =
-    ap (λ (o : Option (List ℕ × List ℕ)). trimmed_of spacing (before_split (written c) o)) (no_arrow_split (written c) (unpointed c fits))
-    ∙ line_kept (name_word c) (words_after c) (plain_name c) (plain_words c fits)
+  -- the whole line of a call is the script
+  pub whole_line : (c : Call) → Fits c → script_part_of (written c) ≡ written c
+  whole_line c fits =
+      ap (λ (o : Option (List ℕ × List ℕ)). trimmed_of spacing (before_split (written c) o)) (no_arrow_split (written c) (unpointed laws c fits))
+      ∙ line_kept (name_word c) (words_after c) (plain_name c) (plain_words laws c fits)
 
--- a script is cut into the lines of its calls
-one_line : (c : Call) → Fits c → pieces_of newline (written c) ≡ written c ∷ []
-one_line c fits = one_piece newline (written c) (let h = (plain_name c).0 in omega (arith, h, length-append (name_word c) (spaced (words_after c)))) (written_without newline no_newline refl c fits)
+  -- a script is cut into the lines of its calls
+  one_line : (c : Call) → Fits c → pieces_of newline (written c) ≡ written c ∷ []
+  one_line c fits = one_piece laws newline (written c) (let h = (plain_name c).0 in omega (arith, h, length-append (name_word c) (spaced (words_after c)))) (written_without laws newline no_newline refl c fits)
 
-pub line_first : (c : Call) → Fits c → (rest : List ℕ) → pieces_of newline (written c ++ (codes "\n" ++ rest)) ≡ written c ∷ pieces_of newline rest
-line_first c fits rest = (cuts_apart newline).apart (written c) 10 rest refl ∙ ap (λ ps. ps ++ pieces_of newline rest) (one_line c fits)
+  pub line_first : (c : Call) → Fits c → (rest : List ℕ) → pieces_of newline (written c ++ (codes "\n" ++ rest)) ≡ written c ∷ pieces_of newline rest
+  line_first c fits rest = (laws.cuts newline).apart (written c) 10 rest refl ∙ ap (λ ps. ps ++ pieces_of newline rest) (one_line c fits)
 
-pub lines_cut : (cs : List Call) → AllByRecursion Fits cs → pieces_of newline (script_of cs) ≡ map written cs
-lines_cut [] fits = (cuts_apart newline).none
-lines_cut (c ∷ cs) fits = line_first c fits.0 (script_of cs) ∙ ap (λ ps. written c ∷ ps) (lines_cut cs fits.1)
+  pub lines_cut : (cs : List Call) → AllByRecursion Fits cs → pieces_of newline (script_of cs) ≡ map written cs
+  lines_cut [] fits = (laws.cuts newline).none
+  lines_cut (c ∷ cs) fits = line_first c fits.0 (script_of cs) ∙ ap (λ ps. written c ∷ ps) (lines_cut cs fits.1)

@@ -7,8 +7,7 @@ use Rattle.std.proofs.lemmas.Bool.Decides.{nat_tests}
 use Rattle.words.specs.Hex.{hex_digit_of, written_byte, written_u16}
 use Rattle.words.specs.Numbers.{is_digit, all_digits}
 use Rattle.words.specs.Pieces.{spacing, newline, pieces_of, NoSeparator}
-use Rattle.words.proofs.Cutting.{cuts_apart, uncut_append}
-use Rattle.words.proofs.Digits.{decimal_digits}
+use Rattle.words.specs.Laws.{WordLaws}
 use Rattle.costs.specs.Names.{letter_of}
 use Rattle.costs.specs.declared.kind_name.KindName.{KindName}
 use Rattle.costs.specs.declared.kind_name.KindName.TheVariants.{Points, Severity, Rank}
@@ -77,8 +76,9 @@ free_digits (d ∷ ds) digits =
     let both = and_parts (is_digit d) (all_digits ds) digits in
     (free_digit d both.0, free_digits ds both.1)
 
-pub plain_decimal : (n : ℕ) → n < 2 ^ 64 → Plain (decimal n)
-plain_decimal n small = (decimal_nonempty n small, free_digits (decimal n) (decimal_digits n small))
+module _ (laws : WordLaws) where
+  pub plain_decimal : (n : ℕ) → n < 2 ^ 64 → Plain (decimal n)
+  plain_decimal n small = (decimal_nonempty n small, free_digits (decimal n) (laws.digits n small))
 
 -- hexadecimal digits
 free_hex : (v : ℕ) → v < 16 → reserved (hex_digit_of v) ≡ false
@@ -87,15 +87,16 @@ free_hex v small = grind (arith, nat_tests)
 free_byte : (b : ℕ) → b < 2 ^ 8 → NoSeparator reserved (written_byte b)
 free_byte b small = (free_hex (b / 16) (omega arith), (free_hex (b % 16) (omega arith), tt))
 
-free_bytes : (bs : List ℕ) → AllByRecursion (λ b. b < 2 ^ 8) bs → NoSeparator reserved (flat_map written_byte bs)
-free_bytes [] small = tt
-free_bytes (b ∷ bs) small = uncut_append reserved (written_byte b) (flat_map written_byte bs) (free_byte b small.0) (free_bytes bs small.1)
+module _ (laws : WordLaws) where
+  free_bytes : (bs : List ℕ) → AllByRecursion (λ b. b < 2 ^ 8) bs → NoSeparator reserved (flat_map written_byte bs)
+  free_bytes [] small = tt
+  free_bytes (b ∷ bs) small = laws.uncut reserved (written_byte b) (flat_map written_byte bs) (free_byte b small.0) (free_bytes bs small.1)
 
-pub plain_bytes : (b : ℕ) (bs : List ℕ) → AllByRecursion (λ b. b < 2 ^ 8) (b ∷ bs) → Plain (flat_map written_byte (b ∷ bs))
-plain_bytes b bs small = (omega arith, free_bytes (b ∷ bs) small)
+  pub plain_bytes : (b : ℕ) (bs : List ℕ) → AllByRecursion (λ b. b < 2 ^ 8) (b ∷ bs) → Plain (flat_map written_byte (b ∷ bs))
+  plain_bytes b bs small = (omega arith, free_bytes (b ∷ bs) small)
 
-pub plain_u16 : (n : ℕ) → n < 2 ^ 16 → Plain (written_u16 n)
-plain_u16 n small = (omega arith, uncut_append reserved (written_byte (n / 256)) (written_byte (n % 256)) (free_byte (n / 256) (omega arith)) (free_byte (n % 256) (omega arith)))
+  pub plain_u16 : (n : ℕ) → n < 2 ^ 16 → Plain (written_u16 n)
+  plain_u16 n small = (omega arith, laws.uncut reserved (written_byte (n / 256)) (written_byte (n % 256)) (free_byte (n / 256) (omega arith)) (free_byte (n % 256) (omega arith)))
 
 -- a kind's letter
 free_letter : (k : KindName) → reserved (letter_of k) ≡ false
@@ -106,33 +107,35 @@ free_letter Rank = refl
 pub plain_letter : (k : KindName) → Plain (letter_of k ∷ [])
 plain_letter k = (omega arith, (free_letter k, tt))
 
--- bytes with no separator are one piece
-pub one_piece : (sep : ℕ → Bool) (bs : List ℕ) → 0 < length bs → NoSeparator sep bs → pieces_of sep bs ≡ bs ∷ []
-one_piece sep [] some uncut = absurd (omega (arith, some))
-one_piece sep (b ∷ bs) some uncut = (cuts_apart sep).one b bs uncut
+-- pieces of lines
+module _ (laws : WordLaws) where
+  -- bytes with no separator are one piece
+  pub one_piece : (sep : ℕ → Bool) (bs : List ℕ) → 0 < length bs → NoSeparator sep bs → pieces_of sep bs ≡ bs ∷ []
+  one_piece sep [] some uncut = absurd (omega (arith, some))
+  one_piece sep (b ∷ bs) some uncut = (laws.cuts sep).one b bs uncut
 
--- a line of plain words
-word_piece : (w : List ℕ) → Plain w → pieces_of spacing w ≡ w ∷ []
-word_piece w plain = one_piece spacing w plain.0 (fewer reserved spacing no_spacing w plain.1)
+  -- a line of plain words
+  word_piece : (w : List ℕ) → Plain w → pieces_of spacing w ≡ w ∷ []
+  word_piece w plain = one_piece spacing w plain.0 (fewer reserved spacing no_spacing w plain.1)
 
-pub spaced_pieces : (w : List ℕ) (ws : List (List ℕ)) → Plain w → AllByRecursion Plain ws → pieces_of spacing (w ++ spaced ws) ≡ w ∷ ws
-spaced_pieces w [] plain plains = ap (pieces_of spacing) (append-nil w) ∙ word_piece w plain
-spaced_pieces w (v ∷ ws) plain plains =
-    (cuts_apart spacing).apart w 32 (v ++ spaced ws) refl
-    ∙ ap (λ ps. ps ++ pieces_of spacing (v ++ spaced ws)) (word_piece w plain)
-    ∙ ap (λ ps. w ∷ ps) (spaced_pieces v ws plains.0 plains.1)
+  pub spaced_pieces : (w : List ℕ) (ws : List (List ℕ)) → Plain w → AllByRecursion Plain ws → pieces_of spacing (w ++ spaced ws) ≡ w ∷ ws
+  spaced_pieces w [] plain plains = ap (pieces_of spacing) (append-nil w) ∙ word_piece w plain
+  spaced_pieces w (v ∷ ws) plain plains =
+      (laws.cuts spacing).apart w 32 (v ++ spaced ws) refl
+      ∙ ap (λ ps. ps ++ pieces_of spacing (v ++ spaced ws)) (word_piece w plain)
+      ∙ ap (λ ps. w ∷ ps) (spaced_pieces v ws plains.0 plains.1)
 
 -- a byte, besides a space, that no word has is not in the line
-module _ (also : ℕ → Bool) (rules : (b : ℕ) → reserved b ≡ false → also b ≡ false) (space : also 32 ≡ false) where
+module _ (laws : WordLaws) (also : ℕ → Bool) (rules : (b : ℕ) → reserved b ≡ false → also b ≡ false) (space : also 32 ≡ false) where
   word_without : (w : List ℕ) → Plain w → NoSeparator also w
   word_without w plain = fewer reserved also rules w plain.1
 
   spaced_without : (ws : List (List ℕ)) → AllByRecursion Plain ws → NoSeparator also (spaced ws)
   spaced_without [] plains = tt
-  spaced_without (w ∷ ws) plains = (space, uncut_append also w (spaced ws) (word_without w plains.0) (spaced_without ws plains.1))
+  spaced_without (w ∷ ws) plains = (space, laws.uncut also w (spaced ws) (word_without w plains.0) (spaced_without ws plains.1))
 
   pub line_without : (w : List ℕ) (ws : List (List ℕ)) → Plain w → AllByRecursion Plain ws → NoSeparator also (w ++ spaced ws)
-  line_without w ws plain plains = uncut_append also w (spaced ws) (word_without w plain) (spaced_without ws plains)
+  line_without w ws plain plains = laws.uncut also w (spaced ws) (word_without w plain) (spaced_without ws plains)
 
 -- A line begins and ends with a plain word.
 pub record Ends (line : List ℕ) : Type 0 where

@@ -8,12 +8,12 @@ use Rattle.costs.specs.declared.kind_name.KindName.{KindName}
 use Rattle.costs.specs.declared.kind_name.KindName.TheVariants.{Points, Severity, Rank}
 use Rattle.board.specs.declared.row.Row.{Row}
 use Rattle.board.specs.declared.row.RowKind.{RowKind}
+use Rattle.board.specs.declared.row.RowKind.TheVariants.{Plain as PlainRow, Open, Close, End}
+use Rattle.board.specs.Rows.{kind_number, kind_of_number}
 use Rattle.words.specs.Hex.{written_u16}
 use Rattle.words.specs.Numbers.{number_before, numbers_of}
 use Rattle.words.specs.Pieces.{spacing, pieces_of, NoSeparator}
-use Rattle.board.proofs.Leads.{kind_back}
-use Rattle.words.proofs.Digits.{reads_back}
-use Rattle.words.proofs.HexDigits.{bytes_read_back, number_reads_back}
+use Rattle.words.specs.Laws.{WordLaws}
 use Rattle.script.specs.Calls.{Call, kind, size, row, line, reprice_row, reprice_line, clear, load, settle, reopen, cost, path, between, check}
 use Rattle.script.specs.Forms.{longest, two_wide, row_limits, line_limits, kind_word, two_call, row_from, line_from, load_call}
 use Rattle.script.specs.Names.{spells}
@@ -24,35 +24,37 @@ use Rattle.script.proofs.Plain.{Plain, is_plain, reserved, point, star, fewer, n
 use Rattle.script.proofs.Again.{said_again}
 use Rattle.script.proofs.Arrows.{line_alone, line_answered, no_star_split}
 
--- decimal numbers
-numbers_back : (limits ns : List ℕ) → AllByRecursion (λ m. m < 2 ^ 64) limits → UpTo limits ns → numbers_of limits (map decimal ns) ≡ Some ns
-numbers_back [] [] wide fits = refl
-numbers_back [] (n ∷ ns) wide fits = absurd fits
-numbers_back (m ∷ ms) [] wide fits = absurd fits
-numbers_back (m ∷ ms) (n ∷ ns) wide fits =
-    ap (λ o. number_before o (numbers_of ms (map decimal ns))) (reads_back m wide.0 n fits.0)
-    ∙ ap (number_before (Some n)) (numbers_back ms ns wide.1 fits.1)
+-- numbers and moves
+module _ (laws : WordLaws) where
+  -- decimal numbers
+  numbers_back : (limits ns : List ℕ) → AllByRecursion (λ m. m < 2 ^ 64) limits → UpTo limits ns → numbers_of limits (map decimal ns) ≡ Some ns
+  numbers_back [] [] wide fits = refl
+  numbers_back [] (n ∷ ns) wide fits = absurd fits
+  numbers_back (m ∷ ms) [] wide fits = absurd fits
+  numbers_back (m ∷ ms) (n ∷ ns) wide fits =
+      ap (λ o. number_before o (numbers_of ms (map decimal ns))) (laws.numbers_back m wide.0 n fits.0)
+      ∙ ap (number_before (Some n)) (numbers_back ms ns wide.1 fits.1)
 
-plain_decimals : (limits ns : List ℕ) → AllByRecursion (λ m. m < 2 ^ 64) limits → UpTo limits ns → AllByRecursion Plain (map decimal ns)
-plain_decimals [] [] wide fits = tt
-plain_decimals [] (n ∷ ns) wide fits = absurd fits
-plain_decimals (m ∷ ms) [] wide fits = absurd fits
-plain_decimals (m ∷ ms) (n ∷ ns) wide fits = (plain_decimal n (omega (arith, wide.0, fits.0)), plain_decimals ms ns wide.1 fits.1)
+  plain_decimals : (limits ns : List ℕ) → AllByRecursion (λ m. m < 2 ^ 64) limits → UpTo limits ns → AllByRecursion Plain (map decimal ns)
+  plain_decimals [] [] wide fits = tt
+  plain_decimals [] (n ∷ ns) wide fits = absurd fits
+  plain_decimals (m ∷ ms) [] wide fits = absurd fits
+  plain_decimals (m ∷ ms) (n ∷ ns) wide fits = (plain_decimal laws n (omega (arith, wide.0, fits.0)), plain_decimals ms ns wide.1 fits.1)
 
--- packed moves
-run_back : (n : ℕ) → n < 2 ^ 16 → run_of (written_u16 n) ≡ Some (record { number = n; times = 1 })
-run_back n small =
-    ap (split_run (written_u16 n)) (no_star_split (written_u16 n) (fewer reserved star no_star (written_u16 n) (plain_u16 n small).1))
-    ∙ ap (λ o. run_from o (Some 1)) (number_reads_back n small)
+  -- packed moves
+  run_back : (n : ℕ) → n < 2 ^ 16 → run_of (written_u16 n) ≡ Some (record { number = n; times = 1 })
+  run_back n small =
+      ap (split_run (written_u16 n)) (no_star_split (written_u16 n) (fewer reserved star no_star (written_u16 n) (plain_u16 laws n small).1))
+      ∙ ap (λ o. run_from o (Some 1)) (laws.hex_back n small)
 
-runs_back : (ms : List ℕ) → AllByRecursion (λ m. m < 2 ^ 16) ms → runs_of (map written_u16 ms) ≡ Some ms
-runs_back [] small = refl
-runs_back (m ∷ ms) small =
-    ap (λ o. run_before o (runs_of (map written_u16 ms))) (run_back m small.0) ∙ ap (run_before (Some (record { number = m; times = 1 }))) (runs_back ms small.1)
+  runs_back : (ms : List ℕ) → AllByRecursion (λ m. m < 2 ^ 16) ms → runs_of (map written_u16 ms) ≡ Some ms
+  runs_back [] small = refl
+  runs_back (m ∷ ms) small =
+      ap (λ o. run_before o (runs_of (map written_u16 ms))) (run_back m small.0) ∙ ap (run_before (Some (record { number = m; times = 1 }))) (runs_back ms small.1)
 
-plain_moves : (ms : List ℕ) → AllByRecursion (λ m. m < 2 ^ 16) ms → AllByRecursion Plain (map written_u16 ms)
-plain_moves [] small = tt
-plain_moves (m ∷ ms) small = (plain_u16 m small.0, plain_moves ms small.1)
+  plain_moves : (ms : List ℕ) → AllByRecursion (λ m. m < 2 ^ 16) ms → AllByRecursion Plain (map written_u16 ms)
+  plain_moves [] small = tt
+  plain_moves (m ∷ ms) small = (plain_u16 laws m small.0, plain_moves ms small.1)
 
 -- the limits are numbers of 64 bits
 two_wide_fit : AllByRecursion (λ m. m < 2 ^ 64) two_wide
@@ -87,25 +89,26 @@ plain_names (check ms) = refl
 pub plain_name : (c : Call) → Plain (name_word c)
 plain_name c = plain_text (name_word c) (plain_names c)
 
-plain_file : (bs : List ℕ) → AllByRecursion (λ b. b < 2 ^ 8) bs → AllByRecursion Plain (file_words bs)
-plain_file [] small = tt
-plain_file (b ∷ bs) small = (plain_bytes b bs small, tt)
+module _ (laws : WordLaws) where
+  plain_file : (bs : List ℕ) → AllByRecursion (λ b. b < 2 ^ 8) bs → AllByRecursion Plain (file_words bs)
+  plain_file [] small = tt
+  plain_file (b ∷ bs) small = (plain_bytes laws b bs small, tt)
 
-pub plain_words : (c : Call) → Fits c → AllByRecursion Plain (words_after c)
-plain_words (kind k) fits = (plain_letter k, tt)
-plain_words (size m t) fits = plain_decimals two_wide (m ∷ t ∷ []) two_wide_fit fits
-plain_words (row r) fits = plain_decimals row_limits (row_numbers r) row_limits_fit fits
-plain_words (line l) fits = plain_decimals line_limits (line_numbers l) line_limits_fit fits
-plain_words (reprice_row i c) fits = plain_decimals two_wide (i ∷ c ∷ []) two_wide_fit fits
-plain_words (reprice_line i c) fits = plain_decimals two_wide (i ∷ c ∷ []) two_wide_fit fits
-plain_words clear fits = tt
-plain_words (load bs) fits = plain_file bs fits
-plain_words settle fits = tt
-plain_words reopen fits = tt
-plain_words cost fits = tt
-plain_words (path n) fits = plain_decimals (longest ∷ []) (n ∷ []) longest_fits (fits, tt)
-plain_words (between s q) fits = plain_decimals two_wide (s ∷ q ∷ []) two_wide_fit fits
-plain_words (check ms) fits = plain_moves ms fits.0
+  pub plain_words : (c : Call) → Fits c → AllByRecursion Plain (words_after c)
+  plain_words (kind k) fits = (plain_letter k, tt)
+  plain_words (size m t) fits = plain_decimals laws two_wide (m ∷ t ∷ []) two_wide_fit fits
+  plain_words (row r) fits = plain_decimals laws row_limits (row_numbers r) row_limits_fit fits
+  plain_words (line l) fits = plain_decimals laws line_limits (line_numbers l) line_limits_fit fits
+  plain_words (reprice_row i c) fits = plain_decimals laws two_wide (i ∷ c ∷ []) two_wide_fit fits
+  plain_words (reprice_line i c) fits = plain_decimals laws two_wide (i ∷ c ∷ []) two_wide_fit fits
+  plain_words clear fits = tt
+  plain_words (load bs) fits = plain_file bs fits
+  plain_words settle fits = tt
+  plain_words reopen fits = tt
+  plain_words cost fits = tt
+  plain_words (path n) fits = plain_decimals laws (longest ∷ []) (n ∷ []) longest_fits (fits, tt)
+  plain_words (between s q) fits = plain_decimals laws two_wide (s ∷ q ∷ []) two_wide_fit fits
+  plain_words (check ms) fits = plain_moves laws ms fits.0
 
 -- they say the call
 says_kind : (k : KindName) → kind_word (letter_of k ∷ []) ≡ Some (kind k)
@@ -113,50 +116,58 @@ says_kind Points = refl
 says_kind Severity = refl
 says_kind Rank = refl
 
+-- a kind of row is told by its number
+kind_back : (k : RowKind) → kind_of_number (kind_number k) ≡ Some k
+kind_back PlainRow = refl
+kind_back Open = refl
+kind_back Close = refl
+kind_back End = refl
+
 abbrev with_kind : Row → RowKind → Call
 with_kind r k = row record { kind = k; from = r.from; to = r.to; label = r.label; action = r.action; cost = r.cost }
 
-says_two : (make : ℕ → ℕ → Call) (a b : ℕ) → UpTo two_wide (a ∷ b ∷ []) → two_call make (map decimal (a ∷ b ∷ [])) ≡ Some (make a b)
-says_two make a b fits = ap (option_map (λ ns. make (get_or ns 0 0) (get_or ns 1 0))) (numbers_back two_wide (a ∷ b ∷ []) two_wide_fit fits)
+module _ (laws : WordLaws) where
+  says_two : (make : ℕ → ℕ → Call) (a b : ℕ) → UpTo two_wide (a ∷ b ∷ []) → two_call make (map decimal (a ∷ b ∷ [])) ≡ Some (make a b)
+  says_two make a b fits = ap (option_map (λ ns. make (get_or ns 0 0) (get_or ns 1 0))) (numbers_back laws two_wide (a ∷ b ∷ []) two_wide_fit fits)
 
-says_file : (bs : List ℕ) → AllByRecursion (λ b. b < 2 ^ 8) bs → load_call (file_words bs) ≡ Some (load bs)
-says_file [] small = refl
-says_file (b ∷ bs) small = ap (option_map load) (bytes_read_back (b ∷ bs) small)
+  says_file : (bs : List ℕ) → AllByRecursion (λ b. b < 2 ^ 8) bs → load_call (file_words bs) ≡ Some (load bs)
+  says_file [] small = refl
+  says_file (b ∷ bs) small = ap (option_map load) (laws.bytes_back (b ∷ bs) small)
 
-says_moves : (ms : List ℕ) → AllByRecursion (λ m. m < 2 ^ 16) ms → length ms ≤ longest → check_call (map written_u16 ms) ≡ Some (check ms)
-says_moves ms small short =
-    ap (λ o. option_map check (not_too_long o)) (runs_back ms small) ∙ ap (option_map check) (cond-true _ _ _ (le-leb (length ms) longest short))
+  says_moves : (ms : List ℕ) → AllByRecursion (λ m. m < 2 ^ 16) ms → length ms ≤ longest → check_call (map written_u16 ms) ≡ Some (check ms)
+  says_moves ms small short =
+      ap (λ o. option_map check (not_too_long o)) (runs_back laws ms small) ∙ ap (option_map check) (cond-true _ _ _ (le-leb (length ms) longest short))
 
-says : (c : Call) → Fits c → words_parsed (name_word c ∷ words_after c) ≡ call c
-unfolding spells
-says (kind k) fits = ap call_parsed (says_kind k)
-says (size m t) fits = ap call_parsed (says_two size m t fits)
-says (row r) fits = ap (λ o. call_parsed (option_and_then row_from o)) (numbers_back row_limits (row_numbers r) row_limits_fit fits) ∙ ap (λ o. call_parsed (option_map (with_kind r) o)) (kind_back r.kind)
-says (line l) fits = ap (λ o. call_parsed (option_map line_from o)) (numbers_back line_limits (line_numbers l) line_limits_fit fits)
-says (reprice_row i c) fits = ap call_parsed (says_two reprice_row i c fits)
-says (reprice_line i c) fits = ap call_parsed (says_two reprice_line i c fits)
-says clear fits = refl
-says (load bs) fits = ap call_parsed (says_file bs fits)
-says settle fits = refl
-says reopen fits = refl
-says cost fits = refl
-says (path n) fits = ap (λ o. call_parsed (option_map (λ ns. path (get_or ns 0 0)) o)) (numbers_back (longest ∷ []) (n ∷ []) longest_fits (fits, tt))
-says (between s q) fits = ap call_parsed (says_two between s q fits)
-says (check ms) fits = ap call_parsed (says_moves ms fits.0 fits.1)
+  says : (c : Call) → Fits c → words_parsed (name_word c ∷ words_after c) ≡ call c
+  unfolding spells
+  says (kind k) fits = ap call_parsed (says_kind k)
+  says (size m t) fits = ap call_parsed (says_two size m t fits)
+  says (row r) fits = ap (λ o. call_parsed (option_and_then row_from o)) (numbers_back laws row_limits (row_numbers r) row_limits_fit fits) ∙ ap (λ o. call_parsed (option_map (with_kind r) o)) (kind_back r.kind)
+  says (line l) fits = ap (λ o. call_parsed (option_map line_from o)) (numbers_back laws line_limits (line_numbers l) line_limits_fit fits)
+  says (reprice_row i c) fits = ap call_parsed (says_two reprice_row i c fits)
+  says (reprice_line i c) fits = ap call_parsed (says_two reprice_line i c fits)
+  says clear fits = refl
+  says (load bs) fits = ap call_parsed (says_file bs fits)
+  says settle fits = refl
+  says reopen fits = refl
+  says cost fits = refl
+  says (path n) fits = ap (λ o. call_parsed (option_map (λ ns. path (get_or ns 0 0)) o)) (numbers_back laws (longest ∷ []) (n ∷ []) longest_fits (fits, tt))
+  says (between s q) fits = ap call_parsed (says_two between s q fits)
+  says (check ms) fits = ap call_parsed (says_moves ms fits.0 fits.1)
 
--- no byte of a written call is one that no word has, but for a space
-pub written_without : (also : ℕ → Bool) → ((b : ℕ) → reserved b ≡ false → also b ≡ false) → also 32 ≡ false → (c : Call) → Fits c → NoSeparator also (written c)
-written_without also rules space c fits = line_without also rules space (name_word c) (words_after c) (plain_name c) (plain_words c fits)
+  -- no byte of a written call is one that no word has, but for a space
+  pub written_without : (also : ℕ → Bool) → ((b : ℕ) → reserved b ≡ false → also b ≡ false) → also 32 ≡ false → (c : Call) → Fits c → NoSeparator also (written c)
+  written_without also rules space c fits = line_without laws also rules space (name_word c) (words_after c) (plain_name c) (plain_words laws c fits)
 
-pub unpointed : (c : Call) → Fits c → NoSeparator point (written c)
-unpointed c fits = written_without point no_point refl c fits
+  pub unpointed : (c : Call) → Fits c → NoSeparator point (written c)
+  unpointed c fits = written_without point no_point refl c fits
 
-pieces : (c : Call) → Fits c → pieces_of spacing (written c) ≡ name_word c ∷ words_after c
-pieces c fits = spaced_pieces (name_word c) (words_after c) (plain_name c) (plain_words c fits)
+  pieces : (c : Call) → Fits c → pieces_of spacing (written c) ≡ name_word c ∷ words_after c
+  pieces c fits = spaced_pieces laws (name_word c) (words_after c) (plain_name c) (plain_words laws c fits)
 
-pub reads_written : ReadsWritten
-reads_written = record {
-  alone = λ c fits. line_alone (written c) (unpointed c fits) ∙ ap words_parsed (pieces c fits) ∙ says c fits;
-  answered = λ c fits answer. line_answered (written c) answer (unpointed c fits) ∙ ap words_parsed (pieces c fits) ∙ says c fits;
-  again = said_again;
-}
+  pub reads_written : ReadsWritten
+  reads_written = record {
+    alone = λ c fits. line_alone laws (written c) (unpointed c fits) ∙ ap words_parsed (pieces c fits) ∙ says c fits;
+    answered = λ c fits answer. line_answered laws (written c) answer (unpointed c fits) ∙ ap words_parsed (pieces c fits) ∙ says c fits;
+    again = said_again laws;
+  }

@@ -4,6 +4,7 @@
 mod check;
 mod command;
 mod error;
+mod filtering;
 mod forms;
 mod limits;
 mod name;
@@ -13,5 +14,6 @@ mod telling;
 
 pub use command::Command;
 pub use error::ParseError;
+pub use filtering::filter;
 pub use running::run;
 pub use script::{parse, script_part};

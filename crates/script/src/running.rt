@@ -18,7 +18,7 @@ use board::Draft;
 use costs::{Kind, KindName, Points, Rank, Severity};
 use file::{Answer, Board, step};
 use std::alloc::{AllocError, Global};
-use words::{Newline, pieces};
+use words::{Newline, pieces, word_theorems};
 
 // The board that a script works on, by its kind. (An arm for each kind, here and where a call is made: a trait of
 // its own for the two would be longer.)
@@ -146,6 +146,7 @@ pub fn run(heap: Global, input: &[u8]) -> Result<Vec<u8>, AllocError>
     ensures prints_answers { PrintsAnswers }
     ensures worked { WorkedScripts }
 {
+    word_theorems();
     let lines = pieces::<Newline>(heap, input)?;
     let mut out = Vec::new(heap);
     let mut session = None;

@@ -8,7 +8,7 @@ use crate::error::ParseError;
 use crate::forms::call;
 use crate::name::named;
 use std::alloc::Global;
-use words::{Spacing, pieces, split_once, trimmed};
+use words::{Spacing, pieces, split_once, trimmed, word_theorems};
 
 // The part of a line that is the script: what stands before the first arrow, without spacing at its ends.
 pub fn script_part(line: &[u8]) -> &[u8]
@@ -38,6 +38,7 @@ pub fn parse(heap: Global, line: &[u8]) -> Result<Option<Command>, ParseError>
     ensures made { IfSome (parsed_of result) (λ p. p ≡ line_parsed line.now) }
     ensures reads_written { ReadsWritten }
 {
+    word_theorems();
     let words = pieces::<Spacing>(heap, script_part(line))?;
     parse_words(heap, words.as_slice())
 }

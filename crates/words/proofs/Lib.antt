@@ -4,3 +4,4 @@ pub mod Listing
 pub mod HexDigits
 pub mod Trimming
 pub mod Splitting
+pub mod AllLaws

@@ -3,3 +3,4 @@ pub mod Numbers
 pub mod Hex
 pub mod Trims
 pub mod Splits
+pub mod Laws

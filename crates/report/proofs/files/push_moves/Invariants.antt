@@ -1,7 +1,7 @@
 use Rattle.std.proofs.Common.{◌≡◌, ◌++◌, drop, string_bytes}
 use Rattle.std.specs.List.{flat_map}
 use Rattle.board.specs.Boards.{settled_content}
-use Rattle.report.specs.Least.{packed_line}
+use Rattle.report.specs.Packed.{packed_line}
 use Rattle.report.proofs.files.push_moves.Given as goal
 
 abbrev pub invariant-loop-packed : goal.invariant-loop-packed

@@ -1,0 +1,23 @@
+-- The laws of words and numbers, in one place, for the crates above.
+use Rattle.std.specs.Prelude.{◌≡◌, ℕ, ◌++◌, ◌^◌, ◌<◌, Bool, true, List, decimal}
+use Rattle.words.specs.Pieces.{NoSeparator, CuttingLaws}
+use Rattle.words.specs.Trims.{SamePieces}
+use Rattle.words.specs.Splits.{Rejoins}
+use Rattle.words.specs.Numbers.{all_digits, ReadsBack}
+use Rattle.words.specs.Hex.{NumberReadsBack, BytesReadBack}
+
+pub record WordLaws : Type 0 where
+  -- the laws that fix the pieces, at whatever separators
+  pub cuts : (sep : ℕ → Bool) → CuttingLaws sep
+  -- two texts without separators have none one behind the other
+  pub uncut : (sep : ℕ → Bool) (xs ys : List ℕ) → NoSeparator sep xs → NoSeparator sep ys → NoSeparator sep (xs ++ ys)
+  -- trimming changes none of the pieces
+  pub trims : (sep : ℕ → Bool) → SamePieces sep
+  -- the parts of a split, with the mark between them, are the bytes
+  pub rejoins : Rejoins
+  -- what is printed of a number is digits, and reads back as that number up to any limit
+  pub digits : (n : ℕ) → n < 2 ^ 64 → all_digits (decimal n) ≡ true
+  pub numbers_back : (limit : ℕ) → limit < 2 ^ 64 → ReadsBack limit
+  -- hexadecimal reads back as what was written
+  pub hex_back : NumberReadsBack
+  pub bytes_back : BytesReadBack
