@@ -15,11 +15,11 @@ use crate::unread::Unread;
 use board::{Line, Row};
 use costs::Kind;
 
-impl<'a, K: Kind> Filling<'a, K> {
+impl<'d, 'a, K: Kind> Filling<'d, 'a, K> {
     // Adds all sections that the reader has left.
     pub fn add_sections(&mut self, mut reader: Reader<'a>) -> Result<(), LoadFault>
         ensures after { told result (so_far self.new) ≡ from_last K.meaning self.old.trust reader.entry.last (reading reader.entry).left (so_far self.old) }
-        ensures same { self.new.trust ≡ self.old.trust }
+        ensures same { (self.new.draft.ghost_name ≡ self.old.draft.ghost_name) × (self.new.trust ≡ self.old.trust) }
     {
         while let Some(section) = reader.next()? {
             self.add_section(section)?;
@@ -30,7 +30,7 @@ impl<'a, K: Kind> Filling<'a, K> {
     // Adds a section: rows and lines go to the board.
     fn add_section(&mut self, section: Section<'a>) -> Result<(), LoadFault>
         ensures after { told result (so_far self.new) ≡ section_added K.meaning self.old.trust (found_section section.entry) (so_far self.old) }
-        ensures same { self.new.trust ≡ self.old.trust }
+        ensures same { (self.new.draft.ghost_name ≡ self.old.draft.ghost_name) × (self.new.trust ≡ self.old.trust) }
     {
         match section {
             Section::Rows(part, count) => self.add_records::<Row>(part, count),
@@ -42,7 +42,7 @@ impl<'a, K: Kind> Filling<'a, K> {
     // Takes the note, which the file has to hold whole.
     fn take_note(&mut self, part: Unread<'a>, count: u16) -> Result<(), LoadFault>
         ensures after { told result (so_far self.new) ≡ note_taken (found Note part.entry count) (so_far self.old) }
-        ensures same { (self.new.trust ≡ self.old.trust) × (self.new.draft ≡ self.old.draft) }
+        ensures same { (self.new.draft.ghost_name ≡ self.old.draft.ghost_name) × (self.new.trust ≡ self.old.trust) × (self.new.draft.now ≡ self.old.draft.now) }
     {
         if part.bytes.len() < usize::from(count) {
             return Err(FileRefusal::CutShort.at(part.place));
@@ -53,8 +53,8 @@ impl<'a, K: Kind> Filling<'a, K> {
 
     // Adds a section's records, one after the other.
     fn add_records<R: Record>(&mut self, mut part: Unread<'a>, count: u16) -> Result<(), LoadFault>
-        ensures after { told result (draft_content self.new.draft) ≡ records (record_added R.read_as (R.added K.meaning self.old.trust)) count part.entry.bytes.now part.entry.place (draft_content self.old.draft) }
-        ensures same { (self.new.trust ≡ self.old.trust) × (self.new.note ≡ self.old.note) }
+        ensures after { told result (draft_content self.new.draft.now) ≡ records (record_added R.read_as (R.added K.meaning self.old.trust)) count part.entry.bytes.now part.entry.place (draft_content self.old.draft.now) }
+        ensures same { (self.new.draft.ghost_name ≡ self.old.draft.ghost_name) × (self.new.trust ≡ self.old.trust) × (self.new.note ≡ self.old.note) }
     {
         for _ in 0..count {
             let place = part.place;
@@ -66,9 +66,9 @@ impl<'a, K: Kind> Filling<'a, K> {
 
     // Adds the record that comes next, and goes past it.
     fn add_record<R: Record>(&mut self, part: &mut Unread<'a>) -> Result<(), FileRefusal>
-        ensures after { told result (draft_content self.new.draft) ≡ record_next (record_added R.read_as (R.added K.meaning self.old.trust)) part.old.bytes.now (draft_content self.old.draft) }
+        ensures after { told result (draft_content self.new.draft.now) ≡ record_next (record_added R.read_as (R.added K.meaning self.old.trust)) part.old.bytes.now (draft_content self.old.draft.now) }
         ensures rest { OnOk result ((part.new.bytes.now ≡ drop 8 part.old.bytes.now) × (part.new.place ≡ part.old.place + 8)) }
-        ensures same { (self.new.trust ≡ self.old.trust) × (self.new.note ≡ self.old.note) }
+        ensures same { (self.new.draft.ghost_name ≡ self.old.draft.ghost_name) × (self.new.trust ≡ self.old.trust) × (self.new.note ≡ self.old.note) }
     {
         let [a, b, c, d, e, f, g, h, rest @ ..] = part.bytes else {
             return Err(FileRefusal::CutShort);
@@ -79,6 +79,6 @@ impl<'a, K: Kind> Filling<'a, K> {
             place: part.place + 8,
         };
         let record = R::read(word)?;
-        record.add(&mut self.draft, self.trust)
+        record.add(self.draft, self.trust)
     }
 }

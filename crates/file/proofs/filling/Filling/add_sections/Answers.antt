@@ -34,7 +34,8 @@ loop-section-preserved g c =
     let t = turn g (goal.at.loop-section-preserved g c).In-Some in
     let h = c.in_ok-add_section.ensures.after in
     let same = ap (λ (r : Reading). from_last g.K.Kind.meaning l.self.trust r.last r.left (so_far c.add_section.new.self)) c.next.ensures.after in
-    record { left = rw c.add_section.ensures.same (same ∙ (sym (rw (← h) at t) ∙ l.invariant.left)); same = c.add_section.ensures.same ∙ l.invariant.same }
+    let k = c.add_section.ensures.same in
+    record { left = rw k.1 (same ∙ (sym (rw (← h) at t) ∙ l.invariant.left)); same = (k.0 ∙ l.invariant.same.0, k.1 ∙ l.invariant.same.1) }
 
 pub returns-in_err-add_section-clause-after : goal.returns-in_err-add_section-clause-after
 returns-in_err-add_section-clause-after g c =

@@ -8,7 +8,7 @@ abbrev pub invariant-loop-section : goal.invariant-loop-section
 invariant-loop-section g l = record {
   left : from_last g.K.Kind.meaning l.self.trust l.reader.last (reading l.reader).left (so_far l.self)
       ≡ from_last g.K.Kind.meaning l.fn.self.trust l.fn.reader.last (reading l.fn.reader).left (so_far l.fn.self);
-  same : l.self.trust ≡ l.fn.self.trust;
+  same : (l.self.draft.ghost_name ≡ l.fn.self.draft.ghost_name) × (l.self.trust ≡ l.fn.self.trust);
 }
 
 abbrev pub decreases-loop-section : goal.decreases-loop-section
