@@ -1,5 +1,5 @@
 -- What a load answers and leaves, for every list of bytes.
-use Rattle.std.specs.Prelude.{ℕ, Bool, cond, ◌&&◌, List, [], length, drop, Some, None, Ok, Err, Option, Result, ◌==◌, nat_le, nat_lt}
+use Rattle.std.specs.Prelude.{ℕ, Bool, cond, ◌&&◌, List, [], length, drop, Ok, Err, Result, ◌==◌, nat_le, nat_lt}
 use Rattle.costs.specs.declared.kind.Kind.{Ghosts}
 use Rattle.costs.specs.Meaning.{Meaning}
 use Rattle.board.specs.Content.{Content, new}
@@ -9,8 +9,8 @@ use Rattle.file.specs.declared.fields.Header.{Header}
 use Rattle.file.specs.declared.refusal.FileRefusal.{FileRefusal}
 use Rattle.file.specs.declared.refusal.FileRefusal.TheVariants.{CutShort, WrongSection}
 use Rattle.file.specs.declared.refusal.LoadFault.{LoadFault}
-use Rattle.file.specs.declared.section.SectionKind.{SectionKind}
-use Rattle.file.specs.declared.section.SectionKind.TheVariants.{Rows, Lines, Note}
+use Rattle.file.specs.declared.reader.Stage.{Stage}
+use Rattle.file.specs.declared.reader.Stage.TheVariants as stage
 use Rattle.file.specs.declared.part.Part.{Part}
 use Rattle.file.specs.declared.filling.Filling.{Filling}
 use Rattle.file.specs.Fields.{word4, header_read, head_code}
@@ -76,12 +76,12 @@ from_lines m trust = in_turn m trust lines_code (from_note m trust)
 unfoldable pub from_rows : Meaning → ℕ → Piece → Loaded → Result Loaded LoadFault
 from_rows m trust = in_turn m trust rows_code (from_lines m trust)
 
--- the sections that may still come after the last that came
-abbrev pub from_last : Meaning → ℕ → Option SectionKind → Piece → Loaded → Result Loaded LoadFault
-from_last m trust None = from_rows m trust
-from_last m trust (Some Rows) = from_lines m trust
-from_last m trust (Some Lines) = from_note m trust
-from_last m trust (Some Note) = at_end
+-- the sections that may come at each stage
+abbrev pub from_stage : Meaning → ℕ → Stage → Piece → Loaded → Result Loaded LoadFault
+from_stage m trust stage.Rows = from_rows m trust
+from_stage m trust stage.Lines = from_lines m trust
+from_stage m trust stage.Note = from_note m trust
+from_stage m trust stage.End = at_end
 
 -- the board sized as the header says, or the board's refusal
 unfoldable pub sized : Header → Content → Result Content FileRefusal

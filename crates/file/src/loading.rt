@@ -11,7 +11,7 @@ ghost use Rattle.file.specs.Load.{told_note, told_trust, opened, filled, note_an
 use crate::fields::read_header;
 use crate::filling::Filling;
 use crate::part::{Note, Part};
-use crate::reader::Reader;
+use crate::reader::{Reader, Stage};
 use crate::refusal::{FileRefusal, LoadFault};
 use crate::unread::Unread;
 use board::Draft;
@@ -71,7 +71,10 @@ fn fill_parts<'a, K: Kind>(draft: &mut Draft<K>, bytes: &'a [u8]) -> Result<Note
         trust,
         note: none,
     };
-    filling.add_sections(Reader { left, last: None })?;
+    filling.add_sections(Reader {
+        left,
+        stage: Stage::Rows,
+    })?;
     Ok(filling.note)
 }
 

@@ -4,7 +4,7 @@ ghost use Rattle.board.specs.Held.{draft_content};
 ghost use Rattle.file.specs.Sections.{found, found_section, reading};
 ghost use Rattle.file.specs.declared.section.SectionKind.TheVariants.{Note};
 ghost use Rattle.file.specs.Records.{told, record_added, record_next, records};
-ghost use Rattle.file.specs.Load.{so_far, section_added, note_taken, from_last};
+ghost use Rattle.file.specs.Load.{so_far, section_added, note_taken, from_stage};
 
 use crate::filling::Filling;
 use crate::reader::Reader;
@@ -18,7 +18,7 @@ use costs::Kind;
 impl<'d, 'a, K: Kind> Filling<'d, 'a, K> {
     // Adds all sections that the reader has left.
     pub fn add_sections(&mut self, mut reader: Reader<'a>) -> Result<(), LoadFault>
-        ensures after { told result (so_far self.new) ≡ from_last K.meaning self.old.trust reader.entry.last (reading reader.entry).left (so_far self.old) }
+        ensures after { told result (so_far self.new) ≡ from_stage K.meaning self.old.trust reader.entry.stage (reading reader.entry).left (so_far self.old) }
         ensures same { (self.new.draft.ghost_name ≡ self.old.draft.ghost_name) × (self.new.trust ≡ self.old.trust) }
     {
         while let Some(section) = reader.next()? {
