@@ -83,15 +83,14 @@ fn open<K: Kind>(draft: &mut Draft<K>, left: &mut Unread<'_>) -> Result<u8, File
     ensures after { told_trust result (draft_content draft.new) ≡ opened K.meaning left.old.bytes.now (draft_content draft.old) }
     ensures rest { OnOk result ((left.new.bytes.now ≡ drop 4 left.old.bytes.now) × (left.new.place ≡ left.old.place + 4)) }
 {
-    let [letter, sizes, moments, trust, rest @ ..] = left.bytes else {
+    let [letter, modes_moments, moments_zeros, trust, rest @ ..] = left.bytes else {
         return Err(FileRefusal::CutShort);
     };
-    let word = u32::from_be_bytes([*letter, *sizes, *moments, *trust]);
+    let header = read_header::<K>(*letter, *modes_moments, *moments_zeros, *trust)?;
     *left = Unread {
         bytes: rest,
         place: left.place + 4,
     };
-    let header = read_header::<K>(word)?;
     draft.size(u32::from(header.modes), u32::from(header.moments))?;
     Ok(header.trust)
 }

@@ -2,7 +2,7 @@
 ghost use Rattle.std.specs.Prelude.{◌≡◌};
 ghost use Rattle.file.specs.Sections.{reading, found_read, found_next, admitted, stage_after, section_answer, next_answer, next_after};
 
-use crate::fields::bits;
+use crate::fields::read_head;
 use crate::refusal::{FileRefusal, LoadFault};
 use crate::section::{Section, SectionKind};
 use crate::unread::Unread;
@@ -48,12 +48,11 @@ impl<'a> Reader<'a> {
         ensures answer { found_read result ≡ section_answer (reading self.old) }
         ensures after { reading self.new ≡ next_after (reading self.old) }
     {
-        let [first, second, rest @ ..] = self.left.bytes else {
+        let [code_count, count, rest @ ..] = self.left.bytes else {
             return Err(FileRefusal::CutShort);
         };
-        let word = u64::from(u16::from_be_bytes([*first, *second]));
-        let kind = self.admit(bits(word, 12, 4) as u16)?;
-        let count = bits(word, 0, 12) as u16;
+        let (code, count) = read_head(*code_count, *count);
+        let kind = self.admit(code)?;
         self.left = Unread {
             bytes: rest,
             place: self.left.place + 2,
@@ -65,7 +64,7 @@ impl<'a> Reader<'a> {
     // Matches the stage that it awaits with the code of the section that comes, and goes on to the stage behind that section;
     // a code that the stage does not take is refused. (By a match, and not by a conversion and an order of kinds: a rule of
     // the project.)
-    fn admit(&mut self, code: u16) -> Result<SectionKind, FileRefusal>
+    fn admit(&mut self, code: u8) -> Result<SectionKind, FileRefusal>
         ensures answer { result ≡ admitted self.old.stage code }
         ensures after { self.new.stage ≡ stage_after self.old.stage code }
         ensures same { self.new.left ≡ self.old.left }

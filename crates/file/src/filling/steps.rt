@@ -64,16 +64,30 @@ impl<'d, 'a, K: Kind> Filling<'d, 'a, K> {
         Ok(())
     }
 
-    // Adds the record that comes next, and goes past it.
+    // Adds the record that comes next, and goes past it: four bytes of fields, which a row and a line divide each in its own
+    // way, and four of cost. (So they are read as one word.)
     fn add_record<R: Record>(&mut self, part: &mut Unread<'a>) -> Result<(), FileRefusal>
         ensures after { told result (draft_content self.new.draft.now) ≡ record_next (record_added R.read_as (R.added K.meaning self.old.trust)) part.old.bytes.now (draft_content self.old.draft.now) }
         ensures rest { OnOk result ((part.new.bytes.now ≡ drop 8 part.old.bytes.now) × (part.new.place ≡ part.old.place + 8)) }
         ensures same { (self.new.draft.ghost_name ≡ self.old.draft.ghost_name) × (self.new.trust ≡ self.old.trust) × (self.new.note ≡ self.old.note) }
     {
-        let [a, b, c, d, e, f, g, h, rest @ ..] = part.bytes else {
+        let [
+            fields1,
+            fields2,
+            fields3,
+            fields4,
+            cost1,
+            cost2,
+            cost3,
+            cost4,
+            rest @ ..,
+        ] = part.bytes
+        else {
             return Err(FileRefusal::CutShort);
         };
-        let word = u64::from_be_bytes([*a, *b, *c, *d, *e, *f, *g, *h]);
+        let word = u64::from_be_bytes([
+            *fields1, *fields2, *fields3, *fields4, *cost1, *cost2, *cost3, *cost4,
+        ]);
         *part = Unread {
             bytes: rest,
             place: part.place + 8,

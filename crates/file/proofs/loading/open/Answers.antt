@@ -15,12 +15,12 @@ use Rattle.file.specs.Records.{called}
 use Rattle.file.specs.Load.{opened, sized}
 use Rattle.file.proofs.loading.open.Goals as goal
 
-module _ (m : Meaning) (bs : List ℕ) (w : ℕ) (c : Content) (h : Header) (long : 4 ≤ length bs) (is : w ≡ word4 bs) (read : Ok h ≡ header_read m w) where
+module _ (m : Meaning) (bs : List ℕ) (c : Content) (h : Header) (long : 4 ≤ length bs) (read : Ok h ≡ header_read m (word4 bs)) where
   refused : (e : FileRefusal) → Err e ≡ sized h c → Err e ≡ opened m bs c
-  refused e s = let l = le-ltb (length bs) 4 long in rw (l, ← is, ← read, ← s)
+  refused e s = let l = le-ltb (length bs) 4 long in rw (l, ← read, ← s)
 
   opens : (d : Content) → Ok d ≡ sized h c → Ok (record { content = d; trust = h.trust }) ≡ opened m bs c
-  opens d s = let l = le-ltb (length bs) 4 long in rw (l, ← is, ← read, ← s)
+  opens d s = let l = le-ltb (length bs) 4 long in rw (l, ← read, ← s)
 
 -- what the board answered of the size
 declined : (o : Option Refusal) (after : Content) (e : Refusal) → Err e ≡ answer o (tt {0}) → Err (Board e) ≡ called o after
@@ -45,18 +45,16 @@ returns-in_err-size-clause-after g c =
     let bs = c.args.left.now.bytes.now in
     let p = err_from_is_err_and c.from_residual-in_err-size.result c.from_residual-in_err-size.ensures.1 in
     let long : 4 ≤ length bs = search rules in
-    let w : c.from_be_bytes-word.result ≡ word4 bs = search rules in
-    let read : Ok c.in_ok-header.header ≡ header_read g.K.Kind.meaning c.from_be_bytes-word.result = search rules in
+    let read : Ok c.in_ok-header.header ≡ header_read g.K.Kind.meaning (word4 bs) = search rules in
     let h = c.in_ok-header.header in
     let s : Err (Board c.in_err-size.field-0.0) ≡ sized h (draft_content c.args.draft.now) = size_declined (draft_content c.args.draft.now) h c.from.result c.from-2.result (search rules) (search rules) c.in_err-size.field-0.0 c.in_err-size.ensures.answer in
-    rw (p.1, p.2) (refused g.K.Kind.meaning bs c.from_be_bytes-word.result (draft_content c.args.draft.now) c.in_ok-header.header long w read (Board c.in_err-size.field-0.0) s)
+    rw (p.1, p.2) (refused g.K.Kind.meaning bs (draft_content c.args.draft.now) c.in_ok-header.header long read (Board c.in_err-size.field-0.0) s)
 
 pub returns-clause-after : goal.returns-clause-after
 returns-clause-after g c =
     let bs = c.args.left.now.bytes.now in
     let long : 4 ≤ length bs = search rules in
-    let w : c.from_be_bytes-word.result ≡ word4 bs = search rules in
-    let read : Ok c.in_ok-header.header ≡ header_read g.K.Kind.meaning c.from_be_bytes-word.result = search rules in
+    let read : Ok c.in_ok-header.header ≡ header_read g.K.Kind.meaning (word4 bs) = search rules in
     let h = c.in_ok-header.header in
     let s : Ok (draft_content c.size.new.self) ≡ sized h (draft_content c.args.draft.now) = size_accepted (draft_content c.args.draft.now) h c.from.result c.from-2.result (search rules) (search rules) (draft_content c.size.new.self) c.in_ok-size.field-0 c.in_ok-size.ensures.answer c.size.ensures.after in
-    opens g.K.Kind.meaning bs c.from_be_bytes-word.result (draft_content c.args.draft.now) c.in_ok-header.header long w read (draft_content c.size.new.self) s
+    opens g.K.Kind.meaning bs (draft_content c.args.draft.now) c.in_ok-header.header long read (draft_content c.size.new.self) s
