@@ -1,23 +1,23 @@
 -- One section more.
-use Rattle.std.proofs.Common.{◌≡◌, ℕ, ◌<◌, ◌≤◌, true, false, ◌⊎◌, length, Some, None, Ok, Err, Option, Result, refl, ◌∙◌, inl, inr, arith}
+use Rattle.std.proofs.Common.{◌≡◌, ℕ, ◌<◌, ◌≤◌, true, false, ◌⊎◌, length, Some, None, Ok, Err, Result, refl, ◌∙◌, inl, inr, arith}
 use Rattle.std.proofs.lemmas.List.{length-drop}
 use Rattle.std.proofs.lemmas.Bool.Decides.{nat_tests}
 use Rattle.costs.specs.Meaning.{Meaning}
 use Rattle.file.specs.declared.refusal.LoadFault.{LoadFault}
-use Rattle.file.specs.declared.section.SectionKind.{SectionKind}
-use Rattle.file.specs.declared.section.SectionKind.TheVariants.{Rows, Lines, Note}
+use Rattle.file.specs.declared.reader.Stage.{Stage}
+use Rattle.file.specs.declared.reader.Stage.TheVariants as stage
 use Rattle.file.specs.Fields.{head_code}
 use Rattle.file.specs.Parts.{Piece}
 use Rattle.file.specs.Sections.{Reading, Found, next_answer, next_after, next_section, past, may_come, following}
 use Rattle.file.specs.Records.{go_on}
-use Rattle.file.specs.Load.{Loaded, section_added, comes, in_turn, at_end, from_note, from_lines, from_rows, from_last}
+use Rattle.file.specs.Load.{Loaded, section_added, comes, in_turn, at_end, from_note, from_lines, from_rows, from_stage}
 
 -- what an answered section says
 pub record Came (r : Reading) (f : Found) : Type 0 where
   pub long : 2 ≤ length r.left.bytes
-  pub ordered : may_come r.last (head_code r.left.bytes) ≡ true
+  pub ordered : may_come r.stage (head_code r.left.bytes) ≡ true
   pub is : f ≡ next_section r.left
-  pub on : next_after r ≡ record { left = past r.left; last = following (head_code r.left.bytes) }
+  pub on : next_after r ≡ record { left = past r.left; stage = following (head_code r.left.bytes) }
 
 pub came : (r : Reading) (f : Found) → next_answer r ≡ Ok (Some f) → Came r f
 came r f e = record { long = grind (arith, nat_tests); ordered = grind (arith, nat_tests); is = grind (arith, nat_tests); on = grind (arith, nat_tests) }
@@ -26,20 +26,20 @@ pub came_less : (r : Reading) (f : Found) → Came r f → length (next_after r)
 came_less r f h = let l = h.long in rw h.on (simp length-drop (omega arith))
 
 -- which codes may come
-rows_codes : (k : ℕ) → may_come None k ≡ true → (k ≡ 1) ⊎ ((k ≡ 2) ⊎ (k ≡ 3))
+rows_codes : (k : ℕ) → may_come stage.Rows k ≡ true → (k ≡ 1) ⊎ ((k ≡ 2) ⊎ (k ≡ 3))
 rows_codes k h = grind (arith, nat_tests)
 
-lines_codes : (k : ℕ) → may_come (Some Rows) k ≡ true → (k ≡ 2) ⊎ (k ≡ 3)
+lines_codes : (k : ℕ) → may_come stage.Lines k ≡ true → (k ≡ 2) ⊎ (k ≡ 3)
 lines_codes k h = grind (arith, nat_tests)
 
-note_codes : (k : ℕ) → may_come (Some Lines) k ≡ true → k ≡ 3
+note_codes : (k : ℕ) → may_come stage.Note k ≡ true → k ≡ 3
 note_codes k h = grind (arith, nat_tests)
 
-end_codes : (k : ℕ) → may_come (Some Note) k ≡ true → ⊥
+end_codes : (k : ℕ) → may_come stage.End k ≡ true → ⊥
 end_codes k h = grind (arith, nat_tests)
 
 -- no section comes next, or none that may
-Stuck : Option SectionKind → Piece → Type 0
+Stuck : Stage → Piece → Type 0
 Stuck s p = (length p.bytes < 2) ⊎ (may_come s (head_code p.bytes) ≡ false)
 
 module _ (m : Meaning) (trust : ℕ) (p : Piece) (x : Loaded) where
@@ -76,16 +76,16 @@ module _ (m : Meaning) (trust : ℕ) (p : Piece) (x : Loaded) where
   takes_rows long e = turn_taken 1 (from_lines m trust) long e
 
   -- where none may come, the file has to end
-  stage_stuck : (s : Option SectionKind) → Stuck s p → from_last m trust s p x ≡ at_end p x
+  stage_stuck : (s : Stage) → Stuck s p → from_stage m trust s p x ≡ at_end p x
   unfolding Stuck
-  stage_stuck None h = passes_rows (grind (arith, nat_tests)) ∙ (passes_lines (grind (arith, nat_tests)) ∙ passes_note (grind (arith, nat_tests)))
-  stage_stuck (Some Rows) h = passes_lines (grind (arith, nat_tests)) ∙ passes_note (grind (arith, nat_tests))
-  stage_stuck (Some Lines) h = passes_note (grind (arith, nat_tests))
-  stage_stuck (Some Note) h = refl
+  stage_stuck stage.Rows h = passes_rows (grind (arith, nat_tests)) ∙ (passes_lines (grind (arith, nat_tests)) ∙ passes_note (grind (arith, nat_tests)))
+  stage_stuck stage.Lines h = passes_lines (grind (arith, nat_tests)) ∙ passes_note (grind (arith, nat_tests))
+  stage_stuck stage.Note h = passes_note (grind (arith, nat_tests))
+  stage_stuck stage.End h = refl
 
   -- where one may come, it is taken
-  taken : (s : Option SectionKind) (k : ℕ) → 2 ≤ length p.bytes → head_code p.bytes ≡ k → may_come s k ≡ true → from_last m trust s p x ≡ go_on (section_added m trust (next_section p) x) (from_last m trust (following k) (past p))
-  taken None k long e h =
+  taken : (s : Stage) (k : ℕ) → 2 ≤ length p.bytes → head_code p.bytes ≡ k → may_come s k ≡ true → from_stage m trust s p x ≡ go_on (section_added m trust (next_section p) x) (from_stage m trust (following k) (past p))
+  taken stage.Rows k long e h =
       elim (rows_codes k h) [
         | inl is ↦ rw is (takes_rows long (e ∙ is))
         | inr others ↦ elim others [
@@ -93,23 +93,23 @@ module _ (m : Meaning) (trust : ℕ) (p : Piece) (x : Loaded) where
           | inr is ↦ rw is (passes_rows (inr (λ z. omega arith)) ∙ (passes_lines (inr (λ z. omega arith)) ∙ takes_note long (e ∙ is)))
         ]
       ]
-  taken (Some Rows) k long e h =
+  taken stage.Lines k long e h =
       elim (lines_codes k h) [
         | inl is ↦ rw is (takes_lines long (e ∙ is))
         | inr is ↦ rw is (passes_lines (inr (λ z. omega arith)) ∙ takes_note long (e ∙ is))
       ]
-  taken (Some Lines) k long e h = let is = note_codes k h in rw is (takes_note long (e ∙ is))
-  taken (Some Note) k long e h = absurd (end_codes k h)
+  taken stage.Note k long e h = let is = note_codes k h in rw is (takes_note long (e ∙ is))
+  taken stage.End k long e h = absurd (end_codes k h)
 
 -- the answers of a reader: the end, a refusal, a section
 module _ (m : Meaning) (trust : ℕ) (r : Reading) (x : Loaded) where
-  pub reader_end : next_answer r ≡ Ok None → from_last m trust r.last r.left x ≡ Ok x
+  pub reader_end : next_answer r ≡ Ok None → from_stage m trust r.stage r.left x ≡ Ok x
   unfolding at_end Stuck
-  reader_end e = let z : length r.left.bytes ≡ 0 = grind (arith, nat_tests) in stage_stuck m trust r.left x r.last (inl (omega arith)) ∙ rw z
+  reader_end e = let z : length r.left.bytes ≡ 0 = grind (arith, nat_tests) in stage_stuck m trust r.left x r.stage (inl (omega arith)) ∙ rw z
 
-  pub reader_refused : (f : LoadFault) → next_answer r ≡ Err f → from_last m trust r.last r.left x ≡ Err f
+  pub reader_refused : (f : LoadFault) → next_answer r ≡ Err f → from_stage m trust r.stage r.left x ≡ Err f
   unfolding at_end Stuck
-  reader_refused f e = let h : Stuck r.last r.left = grind (arith, nat_tests) in stage_stuck m trust r.left x r.last h ∙ grind (arith, nat_tests)
+  reader_refused f e = let h : Stuck r.stage r.left = grind (arith, nat_tests) in stage_stuck m trust r.left x r.stage h ∙ grind (arith, nat_tests)
 
-  pub reader_more : (f : Found) → next_answer r ≡ Ok (Some f) → from_last m trust r.last r.left x ≡ go_on (section_added m trust f x) (from_last m trust (next_after r).last (next_after r).left)
-  reader_more f e = let h = came r f e in rw (h.on, h.is) (taken m trust r.left x r.last _ h.long refl h.ordered)
+  pub reader_more : (f : Found) → next_answer r ≡ Ok (Some f) → from_stage m trust r.stage r.left x ≡ go_on (section_added m trust f x) (from_stage m trust (next_after r).stage (next_after r).left)
+  reader_more f e = let h = came r f e in rw (h.on, h.is) (taken m trust r.left x r.stage _ h.long refl h.ordered)

@@ -1,5 +1,5 @@
 -- What a load answers and leaves, for every list of bytes.
-use Rattle.std.specs.Prelude.{ℕ, Bool, cond, ◌&&◌, List, [], length, drop, Some, None, Ok, Err, Option, Result, ◌==◌, nat_le, nat_lt}
+use Rattle.std.specs.Prelude.{ℕ, Bool, cond, ◌&&◌, List, [], length, drop, Ok, Err, Result, ◌==◌, nat_le, nat_lt}
 use Rattle.costs.specs.declared.kind.Kind.{Ghosts}
 use Rattle.costs.specs.Meaning.{Meaning}
 use Rattle.board.specs.Content.{Content, new}
@@ -9,9 +9,8 @@ use Rattle.file.specs.declared.fields.Header.{Header}
 use Rattle.file.specs.declared.refusal.FileRefusal.{FileRefusal}
 use Rattle.file.specs.declared.refusal.FileRefusal.TheVariants.{CutShort, WrongSection}
 use Rattle.file.specs.declared.refusal.LoadFault.{LoadFault}
-use Rattle.file.specs.declared.section.SectionKind.{SectionKind}
-use Rattle.file.specs.declared.section.SectionKind.TheVariants.{Rows, Lines, Note}
-use Rattle.board.specs.declared.draft.Draft.{Draft}
+use Rattle.file.specs.declared.reader.Stage.{Stage}
+use Rattle.file.specs.declared.reader.Stage.TheVariants as stage
 use Rattle.file.specs.declared.part.Part.{Part}
 use Rattle.file.specs.declared.filling.Filling.{Filling}
 use Rattle.file.specs.Fields.{word4, header_read, head_code}
@@ -30,7 +29,7 @@ loaded_as c n = record { content = c; note = n }
 
 -- a board that is being filled, and the note so far
 abbrev pub so_far : {K : Type 0} {k : Ghosts K} → Filling K k → Loaded
-so_far f = loaded_as (draft_content f.draft) (piece f.note)
+so_far f = loaded_as (draft_content f.draft.now) (piece f.note)
 
 -- the same note beside this content
 abbrev pub with_content : Loaded → Content → Result Loaded LoadFault
@@ -77,12 +76,12 @@ from_lines m trust = in_turn m trust lines_code (from_note m trust)
 unfoldable pub from_rows : Meaning → ℕ → Piece → Loaded → Result Loaded LoadFault
 from_rows m trust = in_turn m trust rows_code (from_lines m trust)
 
--- the sections that may still come after the last that came
-abbrev pub from_last : Meaning → ℕ → Option SectionKind → Piece → Loaded → Result Loaded LoadFault
-from_last m trust None = from_rows m trust
-from_last m trust (Some Rows) = from_lines m trust
-from_last m trust (Some Lines) = from_note m trust
-from_last m trust (Some Note) = at_end
+-- the sections that may come at each stage
+abbrev pub from_stage : Meaning → ℕ → Stage → Piece → Loaded → Result Loaded LoadFault
+from_stage m trust stage.Rows = from_rows m trust
+from_stage m trust stage.Lines = from_lines m trust
+from_stage m trust stage.Note = from_note m trust
+from_stage m trust stage.End = at_end
 
 -- the board sized as the header says, or the board's refusal
 unfoldable pub sized : Header → Content → Result Content FileRefusal
@@ -107,10 +106,10 @@ opened m bs c =
     cond (nat_lt (length bs) 4) (Err CutShort)
     (go_on (header_read m (word4 bs)) (λ h. go_on (sized h c) (λ d. Ok (record { content = d; trust = h.trust }))))
 
--- what the code's answer stands for
-abbrev pub opened_as : {K : Type 0} {k : Ghosts K} → Result (Draft K k × ℕ) FileRefusal → Result Opened FileRefusal
-opened_as (Ok p) = Ok (record { content = draft_content p.0; trust = p.1 })
-opened_as (Err e) = Err e
+-- an answered trust together with the content that stands then; a refusal leaves that out
+abbrev pub told_trust : Result ℕ FileRefusal → Content → Result Opened FileRefusal
+told_trust (Ok trust) c = Ok (record { content = c; trust = trust })
+told_trust (Err e) c = Err e
 
 -- the header's part, whose place is 0, and then the sections
 abbrev pub filled : Meaning → List ℕ → Content → Result Loaded LoadFault
@@ -121,10 +120,10 @@ filled m bs c =
 abbrev pub loaded : Meaning → List ℕ → Result Loaded LoadFault
 loaded m bs = filled m bs new
 
--- what the code's answer stands for
-abbrev pub read_as : {K : Type 0} {k : Ghosts K} → Result (Draft K k × Part) LoadFault → Result Loaded LoadFault
-read_as (Ok p) = Ok (loaded_as (draft_content p.0) (piece p.1))
-read_as (Err e) = Err e
+-- an answered note together with the content that stands then; a fault leaves that out
+abbrev pub told_note : Result Part LoadFault → Content → Result Loaded LoadFault
+told_note (Ok p) c = Ok (loaded_as c (piece p))
+told_note (Err e) c = Err e
 
 -- the note, or the fault
 abbrev pub note_answer : Result Loaded LoadFault → Result Piece LoadFault

@@ -1,5 +1,5 @@
 -- The sections of a file, and how a reader goes from one to the next.
-use Rattle.std.specs.Prelude.{ℕ, ◌+◌, ◌-◌, ◌*◌, min, Bool, cond, ◌&&◌, List, length, take, drop, Some, None, Ok, Err, Option, Result, ◌==◌, nat_le, nat_lt}
+use Rattle.std.specs.Prelude.{ℕ, ◌+◌, ◌-◌, ◌*◌, min, Bool, false, cond, ◌||◌, List, length, take, drop, Some, None, Ok, Err, Option, Result, ◌==◌, nat_lt}
 use Rattle.file.specs.declared.refusal.FileRefusal.{FileRefusal}
 use Rattle.file.specs.declared.refusal.FileRefusal.TheVariants.{CutShort, WrongSection}
 use Rattle.file.specs.declared.refusal.LoadFault.{LoadFault}
@@ -9,6 +9,8 @@ use Rattle.file.specs.declared.section.SectionKind.{SectionKind}
 use Rattle.file.specs.declared.section.SectionKind.TheVariants.{Rows, Lines, Note}
 use Rattle.file.specs.declared.unread.Unread.{Unread}
 use Rattle.file.specs.declared.reader.Reader.{Reader}
+use Rattle.file.specs.declared.reader.Stage.{Stage}
+use Rattle.file.specs.declared.reader.Stage.TheVariants as stage
 use Rattle.file.specs.Fields.{head_code, head_count}
 use Rattle.file.specs.Parts.{Piece, unread, fault_at}
 
@@ -62,35 +64,33 @@ found_next (Ok None) = Ok None
 found_next (Ok (Some s)) = Ok (Some (found_section s))
 found_next (Err e) = Err e
 
--- How far a file is read: what is left of it, and the kind of the last section that came. (No reading of a table.)
+-- How far a file is read: what is left of it, and what the reader awaits there. (No reading of a table.)
 pub record Reading : Type 0 where
   pub left : Piece
-  pub last : Option SectionKind
+  pub stage : Stage
 
 -- how far a reader has come
 abbrev pub reading : Reader → Reading
-reading r = record { left = unread r.left; last = r.last }
+reading r = record { left = unread r.left; stage = r.stage }
 
--- the code of the last section that came, 0 before the first
-abbrev pub last_code : Option SectionKind → ℕ
-last_code None = 0
-last_code (Some kind) = section_code kind
+-- Each stage takes its own section or a later one; at the end none may come.
+abbrev pub may_come : Stage → ℕ → Bool
+may_come stage.Rows code = code == rows_code || (code == lines_code || code == note_code)
+may_come stage.Lines code = code == lines_code || code == note_code
+may_come stage.Note code = code == note_code
+may_come stage.End code = false
 
--- the sections come in the order of their codes, each at most once
-abbrev pub may_come : Option SectionKind → ℕ → Bool
-may_come last code = nat_lt (last_code last) code && nat_le code note_code
+-- the kind of the section that has the code, where it may come
+abbrev pub admitted : Stage → ℕ → Result SectionKind FileRefusal
+admitted s code = cond (may_come s code) (kind_of_code code) (Err WrongSection)
 
--- the kind of the section that has the code, where it may still come
-abbrev pub admitted : Option SectionKind → ℕ → Result SectionKind FileRefusal
-admitted last code = cond (may_come last code) (kind_of_code code) (Err WrongSection)
+-- the stage behind the section of that code
+abbrev pub following : ℕ → Stage
+following code = cond (code == rows_code) stage.Lines (cond (code == lines_code) stage.Note stage.End)
 
--- the last section once one of that code has come
-abbrev pub following : ℕ → Option SectionKind
-following code = cond (code == rows_code) (Some Rows) (cond (code == lines_code) (Some Lines) (Some Note))
-
--- the last section after one of that code, which is refused where it may not come
-abbrev pub stage_after : Option SectionKind → ℕ → Option SectionKind
-stage_after last code = cond (may_come last code) (following code) last
+-- the stage after a section of that code, which is refused where it may not come
+abbrev pub stage_after : Stage → ℕ → Stage
+stage_after s code = cond (may_come s code) (following code) s
 
 -- how many bytes the section has whose head comes next
 abbrev pub head_size : List ℕ → ℕ
@@ -115,7 +115,7 @@ past p =
 
 -- the head that comes next is of a section that may come
 abbrev pub in_order : Reading → Bool
-in_order r = may_come r.last (head_code r.left.bytes)
+in_order r = may_come r.stage (head_code r.left.bytes)
 
 -- the section whose head comes next, or why it is refused
 abbrev pub section_answer : Reading → Result Found FileRefusal
@@ -133,4 +133,4 @@ next_answer r =
 abbrev pub next_after : Reading → Reading
 next_after r =
     cond (nat_lt (length r.left.bytes) 2) r
-    (cond (in_order r) (record { left = past r.left; last = following (head_code r.left.bytes) }) r)
+    (cond (in_order r) (record { left = past r.left; stage = following (head_code r.left.bytes) }) r)

@@ -5,11 +5,11 @@ use costs::Kind;
 
 mod steps;
 
-// The board so far, the trust of its lines, and the note so far. (That the trust stays is a clause of each method, as it is
-// of all that a method leaves alone.)
+// The board that is lent to be filled, the trust of its lines, and the note so far. (That the board is the one lent and that
+// the trust stays are clauses of each method, as it is of all that a method leaves alone.)
 #[derive(Drop)]
-pub(crate) struct Filling<'a, K: Kind> {
-    pub draft: Draft<K>,
+pub(crate) struct Filling<'d, 'a, K: Kind> {
+    pub draft: &'d mut Draft<K>,
     pub trust: u8,
     pub note: Note<'a>,
 }

@@ -1,17 +1,17 @@
 // Loading a file into a draft.
 ghost use Rattle.std.specs.Prelude.{◌≡◌, ◌+◌, ◌≤◌, length, drop, IfOk, OnOk};
 ghost use Rattle.costs.specs.Meaning.{Meaning};
-ghost use Rattle.board.specs.Content.{Content, Sound, new};
+ghost use Rattle.board.specs.Content.{Content, Sound};
 ghost use Rattle.board.specs.Held.{draft_content};
 ghost use Rattle.file.specs.Examples.{LayoutExamples};
 ghost use Rattle.file.specs.Parts.{answered};
 ghost use Rattle.file.specs.Layout.{LoadsExactly, longest};
-ghost use Rattle.file.specs.Load.{read_as, opened_as, opened, loaded, load_answer, load_after};
+ghost use Rattle.file.specs.Load.{told_note, told_trust, opened, filled, note_answer, content_left, load_answer, load_after};
 
 use crate::fields::read_header;
 use crate::filling::Filling;
 use crate::part::{Note, Part};
-use crate::reader::Reader;
+use crate::reader::{Reader, Stage};
 use crate::refusal::{FileRefusal, LoadFault};
 use crate::unread::Unread;
 use board::Draft;
@@ -39,28 +39,29 @@ impl<K: Kind> Load for Draft<K> {
     ghost content = { λ d. draft_content d };
 
     fn load<'a>(&mut self, bytes: &'a [u8]) -> Result<Note<'a>, LoadFault> {
-        load_draft(self, bytes)
+        *self = Draft::new();
+        fill(self, bytes)
     }
 }
 
-// Fills a new draft from the file; where a part is refused, the draft is new.
-fn load_draft<'a, K: Kind>(draft: &mut Draft<K>, bytes: &'a [u8]) -> Result<Note<'a>, LoadFault>
-    ensures answer { answered result ≡ load_answer K.meaning bytes.now }
-    ensures after { draft_content draft.new ≡ load_after K.meaning bytes.now }
-    ensures sound { Sound K.meaning (draft_content draft.new) }
+// Sizes and fills the draft as the file says; where a part is refused, the draft is made new.
+fn fill<'a, K: Kind>(draft: &mut Draft<K>, bytes: &'a [u8]) -> Result<Note<'a>, LoadFault>
+    ensures answer { answered result ≡ note_answer (filled K.meaning bytes.now (draft_content draft.old)) }
+    ensures after { draft_content draft.new ≡ content_left (filled K.meaning bytes.now (draft_content draft.old)) }
 {
-    *draft = Draft::new();
-    let (filled, note) = read_file(bytes)?;
-    *draft = filled;
-    Ok(note)
+    let answer = fill_parts(draft, bytes);
+    if answer.is_err() {
+        *draft = Draft::new();
+    }
+    answer
 }
 
-// The board that the file describes, and its note.
-fn read_file<'a, K: Kind>(bytes: &'a [u8]) -> Result<(Draft<K>, Note<'a>), LoadFault>
-    ensures answer { read_as result ≡ loaded K.meaning bytes.now }
+// The same, but where a part is refused, the draft is left as far as it was filled.
+fn fill_parts<'a, K: Kind>(draft: &mut Draft<K>, bytes: &'a [u8]) -> Result<Note<'a>, LoadFault>
+    ensures after { told_note result (draft_content draft.new) ≡ filled K.meaning bytes.now (draft_content draft.old) }
 {
     let mut left = Unread { bytes, place: 0 };
-    let (draft, trust) = open(&mut left).map_err(|refusal| refusal.at(0))?;
+    let trust = open(draft, &mut left).map_err(|refusal| refusal.at(0))?;
     let none = Part {
         bytes: &bytes[bytes.len()..],
         place: bytes.len(),
@@ -70,25 +71,26 @@ fn read_file<'a, K: Kind>(bytes: &'a [u8]) -> Result<(Draft<K>, Note<'a>), LoadF
         trust,
         note: none,
     };
-    filling.add_sections(Reader { left, last: None })?;
-    Ok((filling.draft, filling.note))
+    filling.add_sections(Reader {
+        left,
+        stage: Stage::Rows,
+    })?;
+    Ok(filling.note)
 }
 
-// A new board, sized as the header says, and the trust that the header gives.
-fn open<K: Kind>(left: &mut Unread<'_>) -> Result<(Draft<K>, u8), FileRefusal>
-    ensures answer { opened_as result ≡ opened K.meaning left.old.bytes.now new }
+// Sizes the draft as the header says, and goes past the header; answers the trust that it gives.
+fn open<K: Kind>(draft: &mut Draft<K>, left: &mut Unread<'_>) -> Result<u8, FileRefusal>
+    ensures after { told_trust result (draft_content draft.new) ≡ opened K.meaning left.old.bytes.now (draft_content draft.old) }
     ensures rest { OnOk result ((left.new.bytes.now ≡ drop 4 left.old.bytes.now) × (left.new.place ≡ left.old.place + 4)) }
 {
-    let [letter, sizes, moments, trust, rest @ ..] = left.bytes else {
+    let [letter, modes_moments, moments_zeros, trust, rest @ ..] = left.bytes else {
         return Err(FileRefusal::CutShort);
     };
-    let word = u32::from_be_bytes([*letter, *sizes, *moments, *trust]);
+    let header = read_header::<K>(*letter, *modes_moments, *moments_zeros, *trust)?;
     *left = Unread {
         bytes: rest,
         place: left.place + 4,
     };
-    let header = read_header::<K>(word)?;
-    let mut draft = Draft::new();
     draft.size(u32::from(header.modes), u32::from(header.moments))?;
-    Ok((draft, header.trust))
+    Ok(header.trust)
 }

@@ -2,16 +2,30 @@
 ghost use Rattle.std.specs.Prelude.{◌≡◌};
 ghost use Rattle.file.specs.Sections.{reading, found_read, found_next, admitted, stage_after, section_answer, next_answer, next_after};
 
-use crate::fields::bits;
+use crate::fields::read_head;
 use crate::refusal::{FileRefusal, LoadFault};
 use crate::section::{Section, SectionKind};
 use crate::unread::Unread;
 
-// What is left of the file, and the kind of the last section that came.
+// What the reader awaits. The stages stand in the order of the file: each takes its own section or a later one, and after a
+// section the stage behind that section's is awaited.
+#[derive(Clone, Copy)]
+pub(crate) enum Stage {
+    // rows or anything later: codes 1, 2 and 3
+    Rows,
+    // lines or anything later: codes 2 and 3
+    Lines,
+    // a note: code 3
+    Note,
+    // nothing more: no code
+    End,
+}
+
+// What is left of the file, and what the reader awaits there.
 #[derive(Drop)]
 pub(crate) struct Reader<'a> {
     pub left: Unread<'a>,
-    pub last: Option<SectionKind>,
+    pub stage: Stage,
 }
 
 impl<'a> Reader<'a> {
@@ -34,12 +48,11 @@ impl<'a> Reader<'a> {
         ensures answer { found_read result ≡ section_answer (reading self.old) }
         ensures after { reading self.new ≡ next_after (reading self.old) }
     {
-        let [first, second, rest @ ..] = self.left.bytes else {
+        let [code_count, count, rest @ ..] = self.left.bytes else {
             return Err(FileRefusal::CutShort);
         };
-        let word = u64::from(u16::from_be_bytes([*first, *second]));
-        let kind = self.admit(bits(word, 12, 4) as u16)?;
-        let count = bits(word, 0, 12) as u16;
+        let (code, count) = read_head(*code_count, *count);
+        let kind = self.admit(code)?;
         self.left = Unread {
             bytes: rest,
             place: self.left.place + 2,
@@ -48,20 +61,21 @@ impl<'a> Reader<'a> {
         Ok(kind.section(part, count))
     }
 
-    // Matches its stage with the code of the section that comes, and goes on to it: the sections come in the order of their
-    // codes, each at most once. (By a match, and not by a conversion and an order of kinds: a rule of the project.)
-    fn admit(&mut self, code: u16) -> Result<SectionKind, FileRefusal>
-        ensures answer { result ≡ admitted self.old.last code }
-        ensures after { self.new.last ≡ stage_after self.old.last code }
+    // Matches the stage that it awaits with the code of the section that comes, and goes on to the stage behind that section;
+    // a code that the stage does not take is refused. (By a match, and not by a conversion and an order of kinds: a rule of
+    // the project.)
+    fn admit(&mut self, code: u8) -> Result<SectionKind, FileRefusal>
+        ensures answer { result ≡ admitted self.old.stage code }
+        ensures after { self.new.stage ≡ stage_after self.old.stage code }
         ensures same { self.new.left ≡ self.old.left }
     {
-        let kind = match (self.last, code) {
-            (None, 1) => SectionKind::Rows,
-            (None | Some(SectionKind::Rows), 2) => SectionKind::Lines,
-            (None | Some(SectionKind::Rows | SectionKind::Lines), 3) => SectionKind::Note,
+        let (kind, next) = match (self.stage, code) {
+            (Stage::Rows, 1) => (SectionKind::Rows, Stage::Lines),
+            (Stage::Rows | Stage::Lines, 2) => (SectionKind::Lines, Stage::Note),
+            (Stage::Rows | Stage::Lines | Stage::Note, 3) => (SectionKind::Note, Stage::End),
             _ => return Err(FileRefusal::WrongSection),
         };
-        self.last = Some(kind);
+        self.stage = next;
         Ok(kind)
     }
 }

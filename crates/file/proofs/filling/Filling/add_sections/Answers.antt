@@ -2,7 +2,7 @@ use Rattle.std.proofs.Common.{◌≡◌, length, Some, None, Ok, sym, ap, ◌∙
 use Rattle.std.proofs.lemmas.Result.{err_from_is_err_and}
 use Rattle.file.specs.Sections.{Reading, reading, found_section, next_answer, next_after}
 use Rattle.file.specs.Records.{go_on}
-use Rattle.file.specs.Load.{so_far, section_added, from_last}
+use Rattle.file.specs.Load.{so_far, section_added, from_stage}
 use Rattle.file.proofs.Turns.{came, came_less, reader_end, reader_refused, reader_more}
 use Rattle.file.proofs.filling.Filling.add_sections.Given as given
 use Rattle.file.proofs.filling.Filling.add_sections.Goals as goal
@@ -25,7 +25,7 @@ loop-section-smaller g c =
     rw e (came_less r _ (came r _ (at_some g (goal.at.loop-section-smaller g c).In-Some)))
 
 -- what the turn makes of what is left
-turn : (g : given.Over) (c : In-Some g) → from_last g.K.Kind.meaning c.loop-section.self.trust c.loop-section.reader.last (reading c.loop-section.reader).left (so_far c.loop-section.self) ≡ go_on (section_added g.K.Kind.meaning c.loop-section.self.trust (found_section c.in-Some.section) (so_far c.loop-section.self)) (from_last g.K.Kind.meaning c.loop-section.self.trust (next_after (reading c.loop-section.reader)).last (next_after (reading c.loop-section.reader)).left)
+turn : (g : given.Over) (c : In-Some g) → from_stage g.K.Kind.meaning c.loop-section.self.trust c.loop-section.reader.stage (reading c.loop-section.reader).left (so_far c.loop-section.self) ≡ go_on (section_added g.K.Kind.meaning c.loop-section.self.trust (found_section c.in-Some.section) (so_far c.loop-section.self)) (from_stage g.K.Kind.meaning c.loop-section.self.trust (next_after (reading c.loop-section.reader)).stage (next_after (reading c.loop-section.reader)).left)
 turn g c = reader_more g.K.Kind.meaning c.loop-section.self.trust (reading c.loop-section.reader) (so_far c.loop-section.self) (found_section c.in-Some.section) (at_some g c)
 
 pub loop-section-preserved : goal.loop-section-preserved
@@ -33,8 +33,9 @@ loop-section-preserved g c =
     let l = c.loop-section in
     let t = turn g (goal.at.loop-section-preserved g c).In-Some in
     let h = c.in_ok-add_section.ensures.after in
-    let same = ap (λ (r : Reading). from_last g.K.Kind.meaning l.self.trust r.last r.left (so_far c.add_section.new.self)) c.next.ensures.after in
-    record { left = rw c.add_section.ensures.same (same ∙ (sym (rw (← h) at t) ∙ l.invariant.left)); same = c.add_section.ensures.same ∙ l.invariant.same }
+    let same = ap (λ (r : Reading). from_stage g.K.Kind.meaning l.self.trust r.stage r.left (so_far c.add_section.new.self)) c.next.ensures.after in
+    let k = c.add_section.ensures.same in
+    record { left = rw k.1 (same ∙ (sym (rw (← h) at t) ∙ l.invariant.left)); same = (k.0 ∙ l.invariant.same.0, k.1 ∙ l.invariant.same.1) }
 
 pub returns-in_err-add_section-clause-after : goal.returns-in_err-add_section-clause-after
 returns-in_err-add_section-clause-after g c =

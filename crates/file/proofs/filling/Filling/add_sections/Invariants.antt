@@ -1,14 +1,14 @@
 -- What is left gives what the whole does.
 use Rattle.std.proofs.Common.{◌≡◌, length}
 use Rattle.file.specs.Sections.{reading}
-use Rattle.file.specs.Load.{so_far, from_last}
+use Rattle.file.specs.Load.{so_far, from_stage}
 use Rattle.file.proofs.filling.Filling.add_sections.Given as goal
 
 abbrev pub invariant-loop-section : goal.invariant-loop-section
 invariant-loop-section g l = record {
-  left : from_last g.K.Kind.meaning l.self.trust l.reader.last (reading l.reader).left (so_far l.self)
-      ≡ from_last g.K.Kind.meaning l.fn.self.trust l.fn.reader.last (reading l.fn.reader).left (so_far l.fn.self);
-  same : l.self.trust ≡ l.fn.self.trust;
+  left : from_stage g.K.Kind.meaning l.self.trust l.reader.stage (reading l.reader).left (so_far l.self)
+      ≡ from_stage g.K.Kind.meaning l.fn.self.trust l.fn.reader.stage (reading l.fn.reader).left (so_far l.fn.self);
+  same : (l.self.draft.ghost_name ≡ l.fn.self.draft.ghost_name) × (l.self.trust ≡ l.fn.self.trust);
 }
 
 abbrev pub decreases-loop-section : goal.decreases-loop-section

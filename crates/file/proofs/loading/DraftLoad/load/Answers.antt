@@ -1,6 +1,8 @@
-use Rattle.std.proofs.Common.{refl, arith}
+use Rattle.std.proofs.Common.{◌≡◌, refl, arith, rules}
+use Rattle.board.specs.Held.{draft_content, draft_sound}
 use Rattle.file.specs.Records.{row_added, line_added, records}
-use Rattle.file.specs.Load.{at_end, from_note, from_lines, from_rows, sized}
+use Rattle.file.specs.Load.{at_end, from_note, from_lines, from_rows, sized, load_answer, load_after}
+use Rattle.file.specs.Parts.{answered}
 use Rattle.file.specs.Examples.{LayoutExamples}
 use Rattle.file.proofs.Exactly.{exactly}
 use Rattle.file.proofs.Longest.{no_longer}
@@ -28,13 +30,16 @@ worked = record {
 
 pub returns : goal.returns
 returns g c =
-    let h = c.load_draft.ensures in
-    let exact = exactly g.K.Kind.meaning c.args.bytes.now _ _ (λ i. omega (arith, c.type_inv.bytes i)) h.answer h.after in
+    let m = g.K.Kind.meaning in
+    let bytes = c.args.bytes.now in
+    let answer : answered c.fill.result ≡ load_answer m bytes = search rules in
+    let after : draft_content c.fill.new.draft ≡ load_after m bytes = search rules in
+    let exact = exactly m bytes _ _ (λ i. omega (arith, c.type_inv.bytes i)) answer after in
     record {
-      answer = h.answer;
-      after = h.after;
-      sound = h.sound;
+      answer = answer;
+      after = after;
+      sound = draft_sound c.fill.new.draft;
       exact = exact;
-      size = no_longer g.K.Kind.meaning c.args.bytes.now _ _ exact;
+      size = no_longer m bytes _ _ exact;
       examples = worked;
     }
