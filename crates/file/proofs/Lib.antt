@@ -7,7 +7,12 @@ pub mod Limits
 pub mod Heads
 pub mod Tails
 pub mod Beyond
+pub mod Stops
+pub mod Rules
+pub mod Sofar
+pub mod Declines
 pub mod Exactly
+pub mod Declining
 pub mod Longest
 pub mod Standing
 pub mod Sounding
