@@ -1,9 +1,9 @@
 // Clones and comparisons that tell the truth.
 ghost use Rattle.std.specs.Prelude.{◌≡◌, IsTrue};
 
-// A type whose clones are the value itself.
+// A type whose clones never fail, and are the value itself.
 pub trait ExactClone: Copy {
-    ghost clone_is_same: { (x y : Self) → Self.is_clone x y → y ≡ x };
+    ghost clone_is_same: { (x y : Self) → Self.is_infallible x × (Self.is_clone x y → y ≡ x) };
 }
 
 // A type whose `==` calls only the same value equal. (That a value equals itself is a law of `Eq`.)
