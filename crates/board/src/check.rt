@@ -1,9 +1,13 @@
 // Judging a list of moves.
 ghost use Rattle.std.specs.Prelude.{Some};
+ghost use Rattle.std.proofs.Common.{rules};
+ghost use Rattle.std.specs.Cmp.Rules.{comparing};
 ghost use Rattle.board.specs.Checks.{fault_text};
 
 use crate::refusal::Refusal;
+use std::error::Error;
 use std::fmt;
+use values::{ExactClone, ExactEq, write_plain};
 
 mod calls;
 
@@ -14,11 +18,23 @@ pub struct Fault {
     pub refusal: Refusal,
 }
 
-// As programs tell it: the refusal and the index.
+// As programs tell it, under any options: the refusal and the index.
 impl fmt::Display for Fault {
     ghost output = { λ e. Some (fault_text e) };
 
+    ghost styled_output = { λ e _. Some (fault_text e) };
+
     fn fmt<W: fmt::Write>(&self, f: &mut fmt::Formatter<W>) -> fmt::Result {
-        write!(f, "{} at {}", self.refusal, self.index)
+        write_plain(f, format_args!("{} at {}", self.refusal, self.index))
     }
+}
+
+impl Error for Fault {}
+
+impl ExactClone for Fault {
+    ghost clone_is_same = { Prim.search rules };
+}
+
+impl ExactEq for Fault {
+    ghost equal_is_same = { Prim.search (comparing, rules) };
 }
