@@ -15,7 +15,8 @@ use Rattle.board.specs.Packing.{unpacked}
 use Rattle.board.specs.Checks.{ShallowFrom, PacksReading}
 
 -- The numbers pack a path from place 0 on which no end row comes, each close row closes the bracket opened last of those
--- still open, and never more than 4,096 are open. It comes to a place with some brackets unclosed, the last one first.
+-- still open, and never more than 4,096 are open. It comes to a place, and leaves the brackets unclosed, if any, the last one
+-- first.
 pub record Underway (m : Meaning) (c : Content) (xs : List ℕ) : Type 0 where
   pub moves : List Move
   pub packs : map unpacked xs ≡ map Some moves

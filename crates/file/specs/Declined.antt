@@ -22,11 +22,11 @@ pub data Due : Type 0 where
   at_header : Due
   -- the head of a section, behind the header and the sections described
   at_head : Description → Due
-  -- a row of a section that counts so many, behind the header and the rows described
+  -- a row of a section whose head counts so many, behind the header, that head and the rows described
   at_row : Description → ℕ → Due
-  -- a line of a section that counts so many, behind the header, the section of rows and the lines described
+  -- a line of a section whose head counts so many, behind the header, the section of rows, that head and the lines described
   at_line : Description → ℕ → Due
-  -- the bytes of a note that counts so many, behind the header and the sections described
+  -- the bytes of a note whose head counts so many, behind the header, the sections described and that head
   at_note : Description → ℕ → Due
 
 -- the bytes before it
@@ -102,7 +102,8 @@ part_fault m (at_row d n) bs = row_part_fault m (content_of m d) bs
 part_fault m (at_line d n) bs = line_part_fault m d.trust (content_of m d) bs
 part_fault m (at_note d n) bs = note_fault n bs
 
--- The bytes up to the fault's place are the beginning of a file within the limits, and the part there breaks the fault's rule.
+-- The bytes up to the fault's place are described, within the limits as far as they go (a section's head may count more than may
+-- come), and the part there breaks the fault's rule.
 pub record Declined (m : Meaning) (bytes : List ℕ) (f : LoadFault) : Type 0 where
   pub due : Due
   pub stands : Stands m due

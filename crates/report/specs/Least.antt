@@ -1,4 +1,4 @@
--- What `least` prints, by what load, settle, cost and path answer.
+-- What `least` prints, by what load answers and which reading is the recorded one.
 use Rattle.std.specs.Prelude.{◌≡◌, ℕ, ◌<◌, ◌≤◌, cond, ◌==◌, List, [], ◌∷◌, ◌++◌, length, take, Some, None, Ok, Err, codes, decimal, Option, Result, nat_le, slice_index_or}
 use Rattle.std.proofs.Math.Utf8.{encode}
 use Rattle.std.specs.List.{flat_map, slice_get}
@@ -18,6 +18,7 @@ use Rattle.board.specs.Promises.{NoneBelow}
 use Rattle.file.specs.declared.refusal.LoadFault.{LoadFault}
 use Rattle.file.specs.Refusals.{load_fault_text}
 use Rattle.file.specs.Parts.{Piece}
+use Rattle.file.specs.Laws.{telling}
 use Rattle.file.specs.Load.{load_answer, load_after}
 
 -- the kind whose letter this is, and points under any other
@@ -77,9 +78,9 @@ lines_under m bytes = loaded_lines m (load_answer m bytes) (load_after m bytes)
 abbrev pub least_lines : List ℕ → List ℕ
 least_lines bytes = lines_under (meaning_under (slice_index_or bytes 0 80)) bytes
 
--- how many bytes of its input the program `least` reads
+-- how many bytes of its input the program `least` reads: so many as tell a load
 abbrev pub longest : ℕ
-longest = 8192
+longest = telling
 
 -- That limit never shows: what is printed of a file's first bytes, so many, is what is printed of all of it.
 abbrev pub LimitNeverShows : Type 0
@@ -97,7 +98,7 @@ pub record Printed (m : Meaning) (c : Content) (k : ℕ) (vs : List Move) (lines
   pub whole : lines ≡ cost_line m.letter k (length vs) ++ text
 
 -- What is printed of the file under a kind: where it loads and has a recorded reading of at most 4,096 moves, a line of the
--- reading's cost and number of moves, and then one line for each of its moves; where that has more moves, or there is none
+-- kind's letter and the reading's cost and number of moves, and then one line for each of its moves; where that has more moves, or there is none
 -- below the worst, that refusal's number alone; and where it does not load, the fault.
 pub record PrintsReading (m : Meaning) (bytes : List ℕ) : Type 0 where
   pub reading : (n : Piece) → load_answer m bytes ≡ Ok n → (k : ℕ) (vs : List Move) → RecordedReading m (load_after m bytes) (settled_log m (load_after m bytes)) k vs → length vs ≤ most_moves → Printed m (load_after m bytes) k vs (lines_under m bytes)

@@ -15,9 +15,9 @@ pub record WordLaws : Type 0 where
   pub trims : (sep : ℕ → Bool) → SamePieces sep
   -- the parts of a split, with the mark between them, are the bytes
   pub rejoins : Rejoins
-  -- what is printed of a number is digits, and reads back as that number up to any limit
+  -- what is printed of a number of 64 bits is digits, and reads back as that number up to any limit of 64 bits
   pub digits : (n : ℕ) → n < 2 ^ 64 → all_digits (decimal n) ≡ true
   pub numbers_back : (limit : ℕ) → limit < 2 ^ 64 → ReadsBack limit
-  -- hexadecimal reads back as what was written
+  -- a number of 16 bits, and bytes, written in hexadecimal, read back
   pub hex_back : NumberReadsBack
   pub bytes_back : BytesReadBack
