@@ -73,20 +73,27 @@ abbrev pub each_written : {A : Type 0} → (A → List ℕ) → List A → List 
 each_written f [] = []
 each_written f (x ∷ xs) = f x ++ each_written f xs
 
--- a section: its head, with its code and its count, and what it holds; an absent one has no head
+-- what stands of a section that counts n: its head, with its code and its count, and what has come so far
+abbrev pub section_begun : {A : Type 0} → ℕ → (A → List ℕ) → ℕ → List A → List ℕ
+section_begun code f n xs = in_bytes 2 (head_word code n) ++ each_written f xs
+
+-- a section: all that it counts has come; an absent one has no head
 abbrev pub section_written : {A : Type 0} → ℕ → (A → List ℕ) → Option (List A) → List ℕ
 section_written code f None = []
-section_written code f (Some xs) = in_bytes 2 (head_word code (length xs)) ++ each_written f xs
+section_written code f (Some xs) = section_begun code f (length xs) xs
 
 -- the sections in their order
 abbrev pub sections_written : Option (List Row) → Option (List Line) → Option (List ℕ) → List ℕ
 sections_written rows lines note =
     section_written rows_code row_bytes rows ++ (section_written lines_code line_bytes lines ++ section_written note_code one_byte note)
 
+-- the header
+abbrev pub header_written : Description → List ℕ
+header_written d = in_bytes 4 (header_word d.letter d.modes d.moments d.trust)
+
 -- The bytes of a file: the header, then the sections.
 abbrev pub written : Description → List ℕ
-written d =
-    in_bytes 4 (header_word d.letter d.modes d.moments d.trust) ++ sections_written d.rows d.lines d.note
+written d = header_written d ++ sections_written d.rows d.lines d.note
 
 -- a number that is a byte
 abbrev pub Byte : ℕ → Type 0

@@ -50,10 +50,10 @@ pub(crate) fn read_header<K: Kind>(
 
 // The code and the count that the two bytes of a section head are: code (4) and the first bits of the count (4); its other
 // bits (8).
-pub(crate) fn read_head(code_count: u8, count: u8) -> (u8, u16)
-    ensures code { result.0 ≡ head_code (code_count ∷ count ∷ []) }
-    ensures count { result.1 ≡ head_count (code_count ∷ count ∷ []) }
+pub(crate) fn read_head(code_count: u8, count_end: u8) -> (u8, u16)
+    ensures code { result.0 ≡ head_code (code_count ∷ count_end ∷ []) }
+    ensures count { result.1 ≡ head_count (code_count ∷ count_end ∷ []) }
 {
-    let count = u16::from_be_bytes([code_count & 15, count]);
+    let count = u16::from_be_bytes([code_count & 15, count_end]);
     (code_count >> 4, count)
 }

@@ -6,6 +6,7 @@ ghost use Rattle.board.specs.Held.{draft_content};
 ghost use Rattle.file.specs.Examples.{LayoutExamples};
 ghost use Rattle.file.specs.Parts.{answered};
 ghost use Rattle.file.specs.Layout.{LoadsExactly, longest};
+ghost use Rattle.file.specs.Declined.{DeclinesExactly};
 ghost use Rattle.file.specs.Load.{told_note, told_trust, opened, filled, note_answer, content_left, load_answer, load_after};
 
 use crate::fields::read_header;
@@ -29,6 +30,7 @@ pub trait Load {
         ensures after { content self.new ≡ load_after costs bytes.now }
         ensures sound { Sound costs (content self.new) }
         ensures exact { LoadsExactly costs bytes.now (answered result) (content self.new) }
+        ensures refusals { DeclinesExactly costs bytes.now (answered result) }
         ensures size { IfOk result (λ _. length bytes.now ≤ longest) }
         ensures examples { LayoutExamples };
 }

@@ -48,10 +48,10 @@ impl<'a> Reader<'a> {
         ensures answer { found_read result ≡ section_answer (reading self.old) }
         ensures after { reading self.new ≡ next_after (reading self.old) }
     {
-        let [code_count, count, rest @ ..] = self.left.bytes else {
+        let [code_count, count_end, rest @ ..] = self.left.bytes else {
             return Err(FileRefusal::CutShort);
         };
-        let (code, count) = read_head(*code_count, *count);
+        let (code, count) = read_head(*code_count, *count_end);
         let kind = self.admit(code)?;
         self.left = Unread {
             bytes: rest,

@@ -39,7 +39,7 @@ word4_on (a ∷ b ∷ []) ys h = absurd (omega arith)
 word4_on (a ∷ b ∷ c ∷ []) ys h = absurd (omega arith)
 word4_on (a ∷ b ∷ c ∷ d ∷ bs) ys h = refl
 
-word8_on : (bs ys : List ℕ) → 8 ≤ length bs → word8 (bs ++ ys) ≡ word8 bs
+pub word8_on : (bs ys : List ℕ) → 8 ≤ length bs → word8 (bs ++ ys) ≡ word8 bs
 word8_on [] ys h = absurd (omega arith)
 word8_on (a ∷ []) ys h = absurd (omega arith)
 word8_on (a ∷ b ∷ []) ys h = absurd (omega arith)
@@ -145,7 +145,7 @@ end_refused p x long = grind (arith, nat_tests)
 
 module _ (m : Meaning) (trust : ℕ) where
   -- a note that the file holds whole
-  note_kept : (p : Piece) (x : Loaded) → head_code p.bytes ≡ note_code → head_count p.bytes + 2 ≤ length p.bytes → section_added m trust (next_section p) x ≡ Ok (loaded_as x.content (next_section p).part)
+  pub note_kept : (p : Piece) (x : Loaded) → head_code p.bytes ≡ note_code → head_count p.bytes + 2 ≤ length p.bytes → section_added m trust (next_section p) x ≡ Ok (loaded_as x.content (next_section p).part)
   note_kept p x is long =
       let n = head_count p.bytes in
       let whole = le-ltb (length (take n (drop 2 p.bytes))) n (omega (arith, length-take n (drop 2 p.bytes), length-drop 2 p.bytes)) in

@@ -17,7 +17,7 @@ use Rattle.file.specs.Fields.{word4, header_read}
 use Rattle.file.specs.Parts.{Piece}
 use Rattle.file.specs.Records.{go_on, at_place}
 use Rattle.file.specs.Load.{Opened, opened, Loaded, loaded_as, from_rows, sized, no_note, after_header, loaded, note_answer, content_left, load_answer, load_after}
-use Rattle.file.specs.Layout.{Description, in_bytes, header_word, sections_written, written, Byte, content_of, note_at_end, Described, LoadsExactly}
+use Rattle.file.specs.Layout.{Description, in_bytes, header_word, sections_written, header_written, written, Byte, KeepsLimits, content_of, note_at_end, Described, LoadsExactly}
 use Rattle.file.proofs.Loads.Bytes.{word4_bytes, bytes_word4, word4_fits, each_byte, each_drop}
 use Rattle.file.proofs.Loads.Words.{header_word_fits, header_word_read, HeaderWas, header_read_word}
 use Rattle.file.proofs.Loads.Limits.{went_on, was_called}
@@ -30,10 +30,10 @@ size_was a b h = (grind (arith, nat_tests), grind (arith, nat_tests))
 size_taken : (a b : ℕ) → 0 < a * b → a * b ≤ 64 → size_fault new a b ≡ None
 size_taken a b h k = grind (arith, nat_tests)
 
-record SizedNew (h : Header) (d : Content) : Type 0 where
-  some_place : 0 < h.modes * h.moments
-  few_places : h.modes * h.moments ≤ 64
-  is : with_size new h.modes h.moments ≡ d
+pub record SizedNew (h : Header) (d : Content) : Type 0 where
+  pub some_place : 0 < h.modes * h.moments
+  pub few_places : h.modes * h.moments ≤ 64
+  pub is : with_size new h.modes h.moments ≡ d
 
 sized_was : (h : Header) (d : Content) → sized h new ≡ Ok d → SizedNew h d
 unfolding sized
@@ -47,12 +47,12 @@ unfolding sized
 sized_ok h some few = let e = size_taken h.modes h.moments some few in rw e
 
 -- the header that opened a new board
-record OpenedNew (m : Meaning) (bs : List ℕ) (o : Opened) : Type 0 where
-  long : 4 ≤ length bs
-  header : Header
-  read : header_read m (word4 bs) ≡ Ok header
-  size : SizedNew header (with_size new header.modes header.moments)
-  is : record { content = with_size new header.modes header.moments; trust = header.trust } ≡ o
+pub record OpenedNew (m : Meaning) (bs : List ℕ) (o : Opened) : Type 0 where
+  pub long : 4 ≤ length bs
+  pub header : Header
+  pub read : header_read m (word4 bs) ≡ Ok header
+  pub size : SizedNew header (with_size new header.modes header.moments)
+  pub is : record { content = with_size new header.modes header.moments; trust = header.trust } ≡ o
 
 -- a part that was taken
 placed : {X : Type 0} (o : Result X FileRefusal) (place : ℕ) (x : X) → at_place o place ≡ Ok x → o ≡ Ok x
@@ -118,7 +118,7 @@ module _ (m : Meaning) where
         is = (λ i. record { content = s.is i; trust = a.value.trust }) ∙ cc;
       }
 
-  opened_was : (bs : List ℕ) (o : Opened) → opened m bs new ≡ Ok o → OpenedNew m bs o
+  pub opened_was : (bs : List ℕ) (o : Opened) → opened m bs new ≡ Ok o → OpenedNew m bs o
   opened_was bs o e = opened_long bs o (ltb (length bs) 4) refl e
 
   accepted_as : (bs : List ℕ) (y : Loaded) → AllByRecursion Byte bs → loaded m bs ≡ Ok y → Described m bs y.content y.note
@@ -135,14 +135,17 @@ module _ (m : Meaning) where
   past_header : (bs : List ℕ) (h : Header) (d : Content) → 4 ≤ length bs → header_read m (word4 bs) ≡ Ok h → sized h new ≡ Ok d → loaded m bs ≡ from_rows m h.trust (after_header bs) (loaded_as d (no_note bs))
   past_header bs h d long read size = let l = le-ltb (length bs) 4 long in rw (l, read, size)
 
+  pub header_accepted : (d : Description) (rest : List ℕ) → KeepsLimits m d → loaded m (header_written d ++ rest) ≡ from_rows m d.trust (record { bytes = rest; place = 4 }) (loaded_as (with_size new d.modes d.moments) (no_note (header_written d ++ rest)))
+  header_accepted d rest k =
+      let h : Header = record { modes = d.modes; moments = d.moments; trust = d.trust } in
+      let word = word4_bytes (header_word d.letter d.modes d.moments d.trust) rest (header_word_fits d.letter d.modes d.moments d.trust k.letter_fits k.modes_fit k.moments_fit k.trust_fits) in
+      let read : header_read m (word4 (header_written d ++ rest)) ≡ Ok h = ap (header_read m) word ∙ header_word_read m d.letter d.modes d.moments d.trust k.letter_fits k.modes_fit k.moments_fit k.trust_fits k.own_letter k.plain_trust in
+      past_header (header_written d ++ rest) h (with_size new d.modes d.moments) (omega arith) read (sized_ok h k.some_place k.few_places)
+
   accepts : (bs : List ℕ) (c : Content) (n : Piece) → Described m bs c n → loaded m bs ≡ Ok (loaded_as c n)
   accepts bs c n is =
       let d = is.description in
       let k = is.keeps in
-      let h : Header = record { modes = d.modes; moments = d.moments; trust = d.trust } in
-      let rest = sections_written d.rows d.lines d.note in
-      let word = word4_bytes (header_word d.letter d.modes d.moments d.trust) rest (header_word_fits d.letter d.modes d.moments d.trust k.letter_fits k.modes_fit k.moments_fit k.trust_fits) in
-      let read : header_read m (word4 (written d)) ≡ Ok h = ap (header_read m) word ∙ header_word_read m d.letter d.modes d.moments d.trust k.letter_fits k.modes_fit k.moments_fit k.trust_fits k.own_letter k.plain_trust in
       let ends : 4 + length (drop 4 (written d)) ≡ length (written d) = omega arith in
       let t : Tail m d.trust d.rows d.lines d.note (after_header (written d)) (loaded_as (with_size new d.modes d.moments) (no_note (written d))) (loaded_as c n) = record {
         laid = refl;
@@ -156,7 +159,7 @@ module _ (m : Meaning) where
         noted = is.notes ∙ sym (notes d.note (4 + length (drop 4 (written d))) (length (written d)) (written d) ends refl);
       } in
       ap (loaded m) (sym is.laid_out)
-      ∙ (past_header (written d) h (with_size new d.modes d.moments) (omega arith) read (sized_ok h k.some_place k.few_places)
+      ∙ (header_accepted d (sections_written d.rows d.lines d.note) k
       ∙ rows_accepted m d.trust d.rows d.lines d.note (after_header (written d)) (loaded_as (with_size new d.modes d.moments) (no_note (written d))) (loaded_as c n) t)
 
   -- a load that answered a note and left a content

@@ -47,9 +47,13 @@ head_at bs code n size body rest small few long laid =
     )
 
 -- and such a layout read back
-pub laid_section : (bs : List ℕ) (code n size : ℕ) (body : List ℕ) → 2 ≤ length bs → AllByRecursion Byte bs → head_code bs ≡ code → n ≡ head_count bs → take size (drop 2 bs) ≡ body → bs ≡ in_bytes 2 (head_word code n) ++ (body ++ drop size (drop 2 bs))
-laid_section bs code n size body long e is count whole =
+pub laid_head : (bs : List ℕ) (code n : ℕ) → 2 ≤ length bs → AllByRecursion Byte bs → head_code bs ≡ code → n ≡ head_count bs → bs ≡ in_bytes 2 (head_word code n) ++ drop 2 bs
+laid_head bs code n long e is count =
     let w = word2 bs in
     let made : head_word code n ≡ w = ap (λ (k : ℕ). head_word code k) count ∙ (ap (λ (k : ℕ). head_word k (head_count bs)) (sym is) ∙ head_read_word w (word2_fits bs e)) in
+    bytes_word2 bs long e ∙ ap (λ (k : ℕ). in_bytes 2 k ++ drop 2 bs) (sym made)
+
+pub laid_section : (bs : List ℕ) (code n size : ℕ) (body : List ℕ) → 2 ≤ length bs → AllByRecursion Byte bs → head_code bs ≡ code → n ≡ head_count bs → take size (drop 2 bs) ≡ body → bs ≡ in_bytes 2 (head_word code n) ++ (body ++ drop size (drop 2 bs))
+laid_section bs code n size body long e is count whole =
     let split : drop 2 bs ≡ body ++ drop size (drop 2 bs) = sym (take-append-drop size (drop 2 bs)) ∙ ap (λ (xs : List ℕ). xs ++ drop size (drop 2 bs)) whole in
-    bytes_word2 bs long e ∙ (ap (λ (k : ℕ). in_bytes 2 k ++ drop 2 bs) (sym made) ∙ ap (λ (xs : List ℕ). in_bytes 2 (head_word code n) ++ xs) split)
+    laid_head bs code n long e is count ∙ ap (λ (xs : List ℕ). in_bytes 2 (head_word code n) ++ xs) split

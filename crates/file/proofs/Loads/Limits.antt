@@ -78,11 +78,11 @@ abbrev pub with_lines : Meaning → ℕ → Content → List Line → Content
 with_lines m trust c ls = record { modes = c.modes; moments = c.moments; rows = c.rows; lines = c.lines ++ map (trusted_line m trust) ls }
 
 module _ (m : Meaning) (trust : ℕ) where
-  row_forth : (c : Content) (r : Row) → RowFits r → TakesRow m c r → row_record m c (row_word r) ≡ Ok (row_after m c r)
+  pub row_forth : (c : Content) (r : Row) → RowFits r → TakesRow m c r → row_record m c (row_word r) ≡ Ok (row_after m c r)
   unfolding row_added
   row_forth c r fits taken = rw (row_word_read r fits, taken)
 
-  row_back : (c d : Content) (w : ℕ) → w < 2 ^ 64 → row_record m c w ≡ Ok d → WasAdded row_word RowFits (TakesRow m) (row_after m) c d w
+  pub row_back : (c d : Content) (w : ℕ) → w < 2 ^ 64 → row_record m c w ≡ Ok d → WasAdded row_word RowFits (TakesRow m) (row_after m) c d w
   unfolding row_added
   row_back c d w b h =
       let g = went_on (row_read w) (row_added m c) d h in
@@ -90,11 +90,11 @@ module _ (m : Meaning) (trust : ℕ) where
       let was = row_read_word w g.value b g.answered in
       record { entry = g.value; fits = was.0; is = was.1; taken = k.0; after = k.1 }
 
-  line_forth : (c : Content) (l : Line) → LineFits l → TakesLine m trust c l → line_record m trust c (line_word l) ≡ Ok (line_put m trust c l)
+  pub line_forth : (c : Content) (l : Line) → LineFits l → TakesLine m trust c l → line_record m trust c (line_word l) ≡ Ok (line_put m trust c l)
   unfolding line_added
   line_forth c l fits taken = rw (line_word_read l fits, taken)
 
-  line_back : (c d : Content) (w : ℕ) → w < 2 ^ 64 → line_record m trust c w ≡ Ok d → WasAdded line_word LineFits (TakesLine m trust) (line_put m trust) c d w
+  pub line_back : (c d : Content) (w : ℕ) → w < 2 ^ 64 → line_record m trust c w ≡ Ok d → WasAdded line_word LineFits (TakesLine m trust) (line_put m trust) c d w
   unfolding line_added
   line_back c d w b h =
       let g = went_on (line_read w) (λ (l : Line). line_added m c (trusted_line m trust l)) d h in

@@ -80,14 +80,14 @@ module _ (m : Meaning) (trust : ℕ) (p : Piece) (x : Loaded) where
   pub lines_section : head_code p.bytes ≡ lines_code → section_added m trust (next_section p) x ≡ go_on (records (line_record m trust) (head_count p.bytes) (take (8 * head_count p.bytes) (drop 2 p.bytes)) (p.place + 2) x.content) (with_content x)
   lines_section h = rw h
 
-  note_section : head_code p.bytes ≡ note_code → section_added m trust (next_section p) x ≡ cond (ltb (length (take (head_count p.bytes) (drop 2 p.bytes))) (head_count p.bytes)) (Err (fault_at CutShort (p.place + 2))) (Ok (loaded_as x.content (record { bytes = take (head_count p.bytes) (drop 2 p.bytes); place = p.place + 2 })))
+  pub note_section : head_code p.bytes ≡ note_code → section_added m trust (next_section p) x ≡ cond (ltb (length (take (head_count p.bytes) (drop 2 p.bytes))) (head_count p.bytes)) (Err (fault_at CutShort (p.place + 2))) (Ok (loaded_as x.content (record { bytes = take (head_count p.bytes) (drop 2 p.bytes); place = p.place + 2 })))
   note_section h = rw h
 
   -- what is left after a section of rows or lines, or of a note
-  past_records : (code : ℕ) → head_code p.bytes ≡ code → eqb code note_code ≡ false → (past p).bytes ≡ drop (8 * head_count p.bytes) (drop 2 p.bytes)
+  pub past_records : (code : ℕ) → head_code p.bytes ≡ code → eqb code note_code ≡ false → (past p).bytes ≡ drop (8 * head_count p.bytes) (drop 2 p.bytes)
   past_records code h e = rw (h, e)
 
-  past_note : head_code p.bytes ≡ note_code → (past p).bytes ≡ drop (head_count p.bytes) (drop 2 p.bytes)
+  pub past_note : head_code p.bytes ≡ note_code → (past p).bytes ≡ drop (head_count p.bytes) (drop 2 p.bytes)
   past_note h = rw h
 
   -- a note that was taken
@@ -236,9 +236,9 @@ module _ (m : Meaning) (trust : ℕ) where
         | inr other ↦ let t = lines_tail p x y e few_rows few_lines (sym (passes_rows m trust p x other) ∙ h) in (None, t.0, t.1, t.2)
       ]
 
--- a list that begins with a section of one code, or without it with no section of code k, has no head of code k next
-not_next : {A : Type 0} (k code : ℕ) (f : A → List ℕ) (o : Option (List A)) (bs rest : List ℕ) → code < 16 → (code ≡ k → ⊥) → length (held_in o) < 4096 → bs ≡ section_written code f o ++ rest → (length rest < 2) ⊎ (head_code rest ≡ k → ⊥) → (length bs < 2) ⊎ (head_code bs ≡ k → ⊥)
-not_next k code f None bs rest small other few laid h = subst (λ (ys : List ℕ). (length ys < 2) ⊎ (head_code ys ≡ k → ⊥)) (sym laid) h
+-- a list that begins with a section of one code, or without it with no section of code k, has no section of code k next
+pub not_next : {A : Type 0} (k code : ℕ) (f : A → List ℕ) (o : Option (List A)) (bs rest : List ℕ) → code < 16 → (code ≡ k → ⊥) → length (held_in o) < 4096 → bs ≡ section_written code f o ++ rest → (o ≡ None → (length rest < 2) ⊎ (head_code rest ≡ k → ⊥)) → (length bs < 2) ⊎ (head_code bs ≡ k → ⊥)
+not_next k code f None bs rest small other few laid h = subst (λ (ys : List ℕ). (length ys < 2) ⊎ (head_code ys ≡ k → ⊥)) (sym laid) (h refl)
 not_next k code f (Some xs) bs rest small other few laid h =
     let a = head_at bs code (length xs) (length (each_written f xs)) (each_written f xs) rest small few refl laid in
     inr (λ e. other (sym a.its_code ∙ e))
@@ -249,28 +249,28 @@ same_loaded y c n h k = ap Ok (λ i. loaded_as (sym h i) (sym k i))
 
 module _ (m : Meaning) (trust : ℕ) (p : Piece) (x : Loaded) where
   -- a section of each code that is whole
-  adds_note : (bs rest : List ℕ) → HeadAt p.bytes note_code (length bs) (length bs) bs rest → section_added m trust (next_section p) x ≡ Ok (loaded_as x.content (record { bytes = bs; place = p.place + 2 }))
+  pub adds_note : (bs rest : List ℕ) → HeadAt p.bytes note_code (length bs) (length bs) bs rest → section_added m trust (next_section p) x ≡ Ok (loaded_as x.content (record { bytes = bs; place = p.place + 2 }))
   adds_note bs rest a =
       let whole = le-ltb (length bs) (length bs) (omega arith) in
       note_section m trust p x a.its_code ∙ rw (a.its_count, a.its_body, whole)
 
-  adds_lines : (ls : List Line) (rest : List ℕ) → length x.content.lines + length ls ≤ 128 → AllByRecursion (LineLimits m x.content.moments trust) ls → HeadAt p.bytes lines_code (length ls) (8 * length ls) (each_written line_bytes ls) rest → section_added m trust (next_section p) x ≡ Ok (loaded_as (with_lines m trust x.content ls) x.note)
+  pub adds_lines : (ls : List Line) (rest : List ℕ) → length x.content.lines + length ls ≤ 128 → AllByRecursion (LineLimits m x.content.moments trust) ls → HeadAt p.bytes lines_code (length ls) (8 * length ls) (each_written line_bytes ls) rest → section_added m trust (next_section p) x ≡ Ok (loaded_as (with_lines m trust x.content ls) x.note)
   adds_lines ls rest few keep a =
       let r = lines_forth m trust ls [] (p.place + 2) x.content few keep in
       let body = append-nil (each_written line_bytes ls) in
       lines_section m trust p x a.its_code ∙ rw (a.its_count, a.its_body, ← body, r)
 
-  adds_rows : (rs : List Row) (rest : List ℕ) → length x.content.rows + length rs ≤ 128 → AllByRecursion (RowLimits m x.content.modes) rs → HeadAt p.bytes rows_code (length rs) (8 * length rs) (each_written row_bytes rs) rest → section_added m trust (next_section p) x ≡ Ok (loaded_as (with_rows x.content rs) x.note)
+  pub adds_rows : (rs : List Row) (rest : List ℕ) → length x.content.rows + length rs ≤ 128 → AllByRecursion (RowLimits m x.content.modes) rs → HeadAt p.bytes rows_code (length rs) (8 * length rs) (each_written row_bytes rs) rest → section_added m trust (next_section p) x ≡ Ok (loaded_as (with_rows x.content rs) x.note)
   adds_rows rs rest few keep a =
       let r = rows_forth m trust rs [] (p.place + 2) x.content few keep in
       let body = append-nil (each_written row_bytes rs) in
       rows_section m trust p x a.its_code ∙ rw (a.its_count, a.its_body, ← body, r)
 
   -- what follows such a section
-  note_rest : (n : ℕ) (body rest : List ℕ) → HeadAt p.bytes note_code n n body rest → (past p).bytes ≡ rest
+  pub note_rest : (n : ℕ) (body rest : List ℕ) → HeadAt p.bytes note_code n n body rest → (past p).bytes ≡ rest
   note_rest n body rest a = past_note m trust p x a.its_code ∙ (ap (λ (k : ℕ). drop k (drop 2 p.bytes)) a.its_count ∙ a.its_rest)
 
-  records_rest : (code n : ℕ) (body rest : List ℕ) → eqb code note_code ≡ false → HeadAt p.bytes code n (8 * n) body rest → (past p).bytes ≡ rest
+  pub records_rest : (code n : ℕ) (body rest : List ℕ) → eqb code note_code ≡ false → HeadAt p.bytes code n (8 * n) body rest → (past p).bytes ≡ rest
   records_rest code n body rest other a = past_records m trust p x code a.its_code other ∙ (ap (λ (k : ℕ). drop (8 * k) (drop 2 p.bytes)) a.its_count ∙ a.its_rest)
 
 module _ (m : Meaning) (trust : ℕ) where
@@ -290,7 +290,7 @@ module _ (m : Meaning) (trust : ℕ) where
 
   pub lines_accepted : (lines : Option (List Line)) (note : Option (List ℕ)) (p : Piece) (x y : Loaded) → Tail m trust None lines note p x y → from_lines m trust p x ≡ Ok y
   lines_accepted None note p x y t =
-      let other = not_next lines_code note_code one_byte note p.bytes [] (omega arith) (λ e. omega arith) t.note_fits (t.laid ∙ sym (append-nil (section_written note_code one_byte note))) (inl (omega arith)) in
+      let other = not_next lines_code note_code one_byte note p.bytes [] (omega arith) (λ e. omega arith) t.note_fits (t.laid ∙ sym (append-nil (section_written note_code one_byte note))) (λ _. inl (omega arith)) in
       passes_lines m trust p x other ∙ note_accepted note p x y t
   lines_accepted (Some ls) note p x y t =
       let rest = section_written note_code one_byte note in
@@ -314,8 +314,8 @@ module _ (m : Meaning) (trust : ℕ) where
 
   pub rows_accepted : (rows : Option (List Row)) (lines : Option (List Line)) (note : Option (List ℕ)) (p : Piece) (x y : Loaded) → Tail m trust rows lines note p x y → from_rows m trust p x ≡ Ok y
   rows_accepted None lines note p x y t =
-      let last = not_next rows_code note_code one_byte note (section_written note_code one_byte note) [] (omega arith) (λ e. omega arith) t.note_fits (sym (append-nil (section_written note_code one_byte note))) (inl (omega arith)) in
-      let other = not_next rows_code lines_code line_bytes lines p.bytes (section_written note_code one_byte note) (omega arith) (λ e. omega arith) (omega (arith, t.few_lines)) t.laid last in
+      let last = not_next rows_code note_code one_byte note (section_written note_code one_byte note) [] (omega arith) (λ e. omega arith) t.note_fits (sym (append-nil (section_written note_code one_byte note))) (λ _. inl (omega arith)) in
+      let other = not_next rows_code lines_code line_bytes lines p.bytes (section_written note_code one_byte note) (omega arith) (λ e. omega arith) (omega (arith, t.few_lines)) t.laid (λ _. last) in
       passes_rows m trust p x other ∙ lines_accepted lines note p x y t
   rows_accepted (Some rs) lines note p x y t =
       let rest = section_written lines_code line_bytes lines ++ section_written note_code one_byte note in
