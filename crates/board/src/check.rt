@@ -1,6 +1,6 @@
 // Judging a list of moves.
 ghost use Rattle.std.specs.Prelude.{Some};
-ghost use Rattle.board.specs.Checks.{fault_text};
+ghost use Rattle.board.specs.Refusals.{fault_text};
 
 use crate::refusal::Refusal;
 use std::fmt;

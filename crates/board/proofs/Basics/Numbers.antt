@@ -3,7 +3,7 @@ use Rattle.std.proofs.Common.{◌≡◌, ◌*◌, ◌<◌, ◌≤◌, mul_comm, 
 use Rattle.std.proofs.lemmas.Nat.{mul-add-lt}
 use Rattle.board.specs.Moves.{Place, On, place_number, moment, mode}
 use Rattle.board.specs.Content.{Content}
-use Rattle.board.specs.Logged.{pair_of}
+use Rattle.board.specs.Logs.{pair_of}
 
 pub place_below : (c : Content) (p : Place) → On c p → place_number c p < c.modes * c.moments
 place_below c p on = omega (arith, mul-add-lt (mode p) c.moments (moment p) c.modes on.0 on.1, mul_comm c.moments c.modes)

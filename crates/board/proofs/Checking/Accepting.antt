@@ -17,7 +17,8 @@ use Rattle.board.specs.Moves.{Place, Transition}
 use Rattle.board.specs.Paths.{Path, stop, go, stack, Running}
 use Rattle.board.specs.Packing.{unpacked}
 use Rattle.board.specs.Arrivals.{named, leads}
-use Rattle.board.specs.Checks.{bracketed, Progress, start, arrived, take_named, named_by_number, take_move, or_fault, checked_from, check_answer, ShallowFrom, PacksReading, AcceptsReadings}
+use Rattle.board.specs.Checks.{bracketed, Progress, start, arrived, take_named, named_by_number, take_move, or_fault, checked_from, check_answer}
+use Rattle.board.specs.Accepted.{ShallowFrom, PacksReading, AcceptsReadings}
 use Rattle.board.specs.Moves.{is_end}
 use Rattle.board.proofs.Paths.Naming.{named_goes, goes_named}
 use Rattle.board.proofs.Paths.Balance.{body_stack, stack_body}

@@ -13,7 +13,8 @@ use Rattle.board.specs.Content.{Content}
 use Rattle.board.specs.Moves.{Place, is_end}
 use Rattle.board.specs.Paths.{Path, stop, go, stack, Running}
 use Rattle.board.specs.Packing.{unpacked}
-use Rattle.board.specs.Checks.{Progress, take_move, named_by_number, or_fault, checked_from, ShallowFrom}
+use Rattle.board.specs.Checks.{Progress, take_move, named_by_number, or_fault, checked_from}
+use Rattle.board.specs.Accepted.{ShallowFrom}
 use Rattle.board.proofs.Checking.Accepting.{err_ok, took, ended_named, stack_one, still_few, shallow_none, shallow_more, shallow_less, running_one, running_off, opened_one, takes}
 
 -- the check takes these numbers, and comes from one progress to the other

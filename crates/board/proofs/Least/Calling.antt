@@ -14,8 +14,8 @@ use Rattle.board.specs.declared.settling.Goal.{Goal}
 use Rattle.board.specs.Content.{Content}
 use Rattle.board.specs.Moves.{Place, mode, moment, On, place_number, Transition}
 use Rattle.board.specs.Settling.{Record, Derivation, by_step, by_call, bare, call_record, Candidate, step, call, derivation_key, Lex}
-use Rattle.board.specs.Logged.{pair_of, derivation_of, record_of}
-use Rattle.board.specs.Logs.{records, numbered, nth_record, Ready}
+use Rattle.board.specs.Logged.{derivation_of, record_of, records}
+use Rattle.board.specs.Logs.{numbered, nth_record, Ready, pair_of}
 use Rattle.board.specs.Minima.{Link, StandsFor}
 use Rattle.board.specs.Winning.{GoalOn, Makes, made, Wins, Finds, CallAt, CallsBy, CallsOpened, Calls, Gathered, TightAt, Brackets, ServeIn, is_close, closes_to}
 use Rattle.board.proofs.Paths.Standing.{leaves_on, enters_on}

@@ -11,8 +11,8 @@ use Rattle.board.specs.declared.settling.Waiting.{Waiting}
 use Rattle.board.specs.Content.{Content}
 use Rattle.board.specs.Moves.{Place, mode, moment, place_number, effect, Transition}
 use Rattle.board.specs.Settling.{Record, bare, step_record, call_record, step, call}
-use Rattle.board.specs.Logged.{pair_of}
-use Rattle.board.specs.Logs.{records, numbered, nth_record, Ready}
+use Rattle.board.specs.Logged.{records}
+use Rattle.board.specs.Logs.{numbered, nth_record, Ready, pair_of}
 use Rattle.board.specs.Lowering.{Attained, lowered, Lowered, Among, Just}
 use Rattle.board.specs.Minima.{Link, CandidateAt, FollowedBy, FollowedFrom, Linked, PlacesLeast, BracketedBy, BracketedIf, BracketedOn, BracketedIn}
 use Rattle.board.specs.Winning.{is_close, closes_from}

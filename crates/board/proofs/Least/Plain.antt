@@ -15,7 +15,7 @@ use Rattle.board.specs.Content.{Content, Sound}
 use Rattle.board.specs.Moves.{Place, mode, moment, Transition}
 use Rattle.board.specs.Arrivals.{arrival_on}
 use Rattle.board.specs.Settling.{bare}
-use Rattle.board.specs.Logged.{pair_of}
+use Rattle.board.specs.Logs.{pair_of}
 use Rattle.board.specs.Lowering.{Costing, Attained, lowered, Lowered, Among}
 use Rattle.board.specs.Minima.{Plain, PlainlyFrom, PlainlyBy, PlainlyAt, PlainlyAlong}
 use Rattle.board.proofs.Basics.Membership.{some_eq, none_some}

@@ -12,8 +12,8 @@ use Rattle.board.specs.declared.settling.Minima.{Minima}
 use Rattle.board.specs.Content.{Content}
 use Rattle.board.specs.Moves.{Place, moment, On, place_number, Transition}
 use Rattle.board.specs.Settling.{Record, Derivation, bare, Candidate, step, call, Cheaper, Lex, key, derivation_key, Precedes, Unsettled, Round}
-use Rattle.board.specs.Logged.{pair_of, record_of}
-use Rattle.board.specs.Logs.{records, numbered, nth_record, Kept}
+use Rattle.board.specs.Logged.{record_of, records}
+use Rattle.board.specs.Logs.{numbered, nth_record, Kept, pair_of}
 use Rattle.board.specs.Minima.{Link, CandidateAt, State}
 use Rattle.board.specs.Winning.{LeastPair, LeastOf, GoalOn, Makes, made, Wins, Finds, Any, Steps, Calls}
 use Rattle.board.proofs.Basics.Membership.{none_some}

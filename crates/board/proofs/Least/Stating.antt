@@ -11,8 +11,8 @@ use Rattle.board.specs.declared.settling.Waiting.{Waiting}
 use Rattle.board.specs.Content.{Content, Sound}
 use Rattle.board.specs.Moves.{On, place_number}
 use Rattle.board.specs.Settling.{Record, Candidate}
-use Rattle.board.specs.Logged.{Refers, pair_of, spelled, record_of}
-use Rattle.board.specs.Logs.{records, numbered, Kept, Ready, pushed, empty}
+use Rattle.board.specs.Logged.{spelled, record_of, records}
+use Rattle.board.specs.Logs.{numbered, Kept, Ready, pushed, empty, Refers, pair_of}
 use Rattle.board.specs.Lowering.{Costing, Attained, Bounds, Lowered}
 use Rattle.board.specs.Minima.{Plain, Bracketed, BracketedBy, BracketedIn, Link, CandidateAt, Followed, Linked, PlaceLeast, PlacesLeast, Led, State}
 use Rattle.board.proofs.Basics.Laws.{no_dearer_eq, join_no_dearer}

@@ -21,8 +21,8 @@ use Rattle.board.specs.Moves.{Place, mode, moment, On, effect_of, Transition}
 use Rattle.board.specs.Arrivals.{arrival_on}
 use Rattle.board.specs.Computing.{same_place}
 use Rattle.board.specs.Settling.{Record, Derivation, by_step, by_call, bare, step_record, Candidate, step, call, derivation_key, Lex}
-use Rattle.board.specs.Logged.{pair_of, derivation_of, record_of}
-use Rattle.board.specs.Logs.{records, numbered, nth_record, Ready}
+use Rattle.board.specs.Logged.{derivation_of, record_of, records}
+use Rattle.board.specs.Logs.{numbered, nth_record, Ready, pair_of}
 use Rattle.board.specs.Winning.{GoalOn, Makes, made, Wins, Finds, StepOf, StepsBy, Steps, Gathered, LineTo}
 use Rattle.board.proofs.Paths.Standing.{leaves_on}
 use Rattle.board.proofs.Basics.Membership.{some_eq, none_some}

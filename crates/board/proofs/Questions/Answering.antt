@@ -17,7 +17,8 @@ use Rattle.board.specs.Packing.{packed}
 use Rattle.board.specs.Settling.{Record, Settled}
 use Rattle.board.specs.Computing.{record_between, ReadingFound, found}
 use Rattle.board.specs.Promises.{Cheapest}
-use Rattle.board.specs.Questions.{recorded_cost, between_answer, cost_told, cost_answer, fits, path_told, path_written, path_answer, path_after, CostMeans, PathMeans, Pair, BetweenMeans}
+use Rattle.board.specs.Questions.{recorded_cost, between_answer, cost_told, cost_answer, fits, path_told, path_written, path_answer, path_after}
+use Rattle.board.specs.Meanings.{CostMeans, PathMeans, Pair, BetweenMeans}
 use Rattle.board.proofs.Basics.Membership.{none_some}
 use Rattle.board.proofs.Questions.Finding.{joins_parts, between_some, between_is, found_recorded, found_none}
 use Rattle.board.proofs.Basics.Numbers.{place_below}

@@ -9,7 +9,7 @@ use Rattle.board.specs.Content.{Content, Sound}
 use Rattle.board.specs.Moves.{Place, origin, effect}
 use Rattle.board.specs.Paths.{Path, stop, go, brackets, Balanced, stack, Complete}
 use Rattle.board.specs.Packing.{packed}
-use Rattle.board.specs.Checks.{ShallowFrom}
+use Rattle.board.specs.Accepted.{ShallowFrom}
 use Rattle.board.specs.Settling.{In, Record, start_record, diagonal, Candidate, step, call, Rounds, begin, round, Settled, ReadingBy}
 use Rattle.board.specs.Computing.{pair_count}
 use Rattle.board.specs.Promises.{RecordedIsChecked}

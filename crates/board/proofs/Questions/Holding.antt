@@ -8,11 +8,11 @@ use Rattle.board.specs.Moves.{place_number}
 use Rattle.board.specs.declared.log.Log.{Log}
 use Rattle.board.specs.declared.settled.Settled.{Settled}
 use Rattle.board.specs.Content.{Content}
-use Rattle.board.specs.Logged.{pair_of, logged}
-use Rattle.board.specs.Logs.{Book, numbered, records, nth_record}
+use Rattle.board.specs.Logged.{logged, records}
+use Rattle.board.specs.Logs.{Book, numbered, nth_record, pair_of}
 use Rattle.board.specs.Settling.{Settled as SettledLog}
-use Rattle.board.specs.Boards.{settled_content, settled_records, entry_record}
-use Rattle.board.specs.Entries.{EntryIn}
+use Rattle.board.specs.Boards.{settled_content, settled_records}
+use Rattle.board.specs.Entries.{EntryIn, entry_record}
 use Rattle.board.specs.Computing.{joins?, record_between}
 use Rattle.board.proofs.Questions.Finding.{joins_parts}
 use Rattle.board.proofs.Basics.Numbers.{place_below, number_in}

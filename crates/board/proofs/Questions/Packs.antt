@@ -8,7 +8,8 @@ use Rattle.board.specs.declared.moves.Effect.{Effect}
 use Rattle.board.specs.declared.moves.Move.{Move}
 use Rattle.board.specs.declared.row.Row.{Row}
 use Rattle.board.specs.Content.{Content, Sound}
-use Rattle.board.specs.Logs.{Reached, records, nth_record}
+use Rattle.board.specs.Logs.{Reached, nth_record}
+use Rattle.board.specs.Logged.{records}
 use Rattle.board.specs.Moves.{Place, Untimed, Timed}
 use Rattle.board.specs.Paths.{Path, stop, go}
 use Rattle.board.specs.Settling.{bare}

@@ -5,8 +5,7 @@ use Rattle.costs.specs.Meaning.{Meaning}
 use Rattle.board.specs.declared.row.Row.{Row}
 use Rattle.board.specs.declared.log.Log.{Log}
 use Rattle.board.specs.declared.reading.Reading.{Reading}
-use Rattle.board.specs.Boards.{reading_of}
-use Rattle.board.specs.Entries.{ReadingIn}
+use Rattle.board.specs.Entries.{ReadingIn, reading_of}
 use Rattle.board.specs.Content.{Content}
 use Rattle.board.specs.Settling.{Record}
 use Rattle.board.specs.Computing.{ReadingFound, reading_at, limit_by, better_by, better, best_moments, mode_left, best_rows, found}

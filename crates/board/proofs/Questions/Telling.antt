@@ -5,7 +5,7 @@ use Rattle.std.proofs.lemmas.List.{append_assoc, map-append, length-map, drop_mo
 use Rattle.costs.specs.declared.kind.Kind.{Ghosts}
 use Rattle.costs.specs.Meaning.{Lawful}
 use Rattle.board.specs.declared.settled.Settled.{Settled}
-use Rattle.board.specs.Entries.{ReadingIn}
+use Rattle.board.specs.Entries.{ReadingIn, reading_of}
 use Rattle.board.specs.Spelled.{moves_at, move_of}
 use Rattle.board.proofs.Questions.Holding.{settled_of}
 use Rattle.board.proofs.Questions.Packs.{settled_small}
@@ -15,7 +15,7 @@ use Rattle.board.specs.Packing.{packed, Small}
 use Rattle.board.specs.Settling.{bare}
 use Rattle.board.specs.Logs.{nth_record}
 use Rattle.board.specs.Computing.{ReadingFound, found}
-use Rattle.board.specs.Boards.{reading_of, settled_content, settled_records}
+use Rattle.board.specs.Boards.{settled_content, settled_records}
 use Rattle.board.specs.Questions.{fits, path_told, path_written, path_answer, path_after}
 
 -- what is told of a reading in a log

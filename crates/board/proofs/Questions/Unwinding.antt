@@ -6,8 +6,8 @@ use Rattle.board.specs.declared.log.Log.{Log}
 use Rattle.board.specs.declared.log.Source.TheVariants.{Step, Call}
 use Rattle.board.specs.declared.moves.Move.{Move}
 use Rattle.board.specs.Settling.{Record, bare}
-use Rattle.board.specs.Logged.{Refers, spelled, logged}
-use Rattle.board.specs.Logs.{numbered}
+use Rattle.board.specs.Logged.{spelled, logged}
+use Rattle.board.specs.Logs.{numbered, Refers}
 use Rattle.board.specs.Logs.{Spells}
 use Rattle.board.specs.Spelled.{moves_at}
 use Rattle.std.specs.List.{flat_map}

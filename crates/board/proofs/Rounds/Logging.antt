@@ -6,7 +6,8 @@ use Rattle.board.specs.Settling.{In, Record, bare}
 use Rattle.board.specs.declared.log.Entry.{Entry}
 use Rattle.board.specs.declared.log.Source.{Source}
 use Rattle.board.specs.declared.log.Source.TheVariants.{Start, Step, Call}
-use Rattle.board.specs.Logged.{Refers, settled_as, spelled, derivation_of, record_of, blank, logged, record_at}
+use Rattle.board.specs.Logged.{settled_as, spelled, derivation_of, record_of, blank, logged}
+use Rattle.board.specs.Logs.{Refers, record_at}
 
 pub logged_none : (rs : List Entry) → logged rs 0 ≡ []
 unfolding logged

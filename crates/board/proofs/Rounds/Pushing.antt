@@ -7,8 +7,8 @@ use Rattle.board.specs.Settling.{Record, Candidate, step, call}
 use Rattle.board.proofs.Basics.Membership.{some_eq, none_some}
 use Rattle.board.specs.declared.log.Entry.{Entry}
 use Rattle.board.specs.declared.log.Log.{Log}
-use Rattle.board.specs.Logged.{Refers, pair_of, spelled, record_of, logged, blank}
-use Rattle.board.specs.Logs.{records, numbered, filled, Kept, Book, Ready, nth_record, pushed}
+use Rattle.board.specs.Logged.{spelled, record_of, logged, blank, records}
+use Rattle.board.specs.Logs.{numbered, filled, Kept, Book, Ready, nth_record, pushed, Refers, pair_of}
 use Rattle.board.proofs.Rounds.Logging.{logged_push, logged_set}
 use Rattle.board.proofs.Basics.Numbers.{pair_in}
 

@@ -9,8 +9,8 @@ use Rattle.board.proofs.Rounds.Diagonal.{started_in, moments_on, places_on}
 use Rattle.board.proofs.Basics.Membership.{in_split, none_some}
 use Rattle.board.proofs.Rounds.Uniqueness.{number_eq}
 use Rattle.board.specs.declared.log.Log.{Log}
-use Rattle.board.specs.Logged.{pair_of, blank}
-use Rattle.board.specs.Logs.{records, numbered, nth_record, filled, Book, Ready, empty}
+use Rattle.board.specs.Logged.{blank, records}
+use Rattle.board.specs.Logs.{numbered, nth_record, filled, Book, Ready, empty, pair_of}
 use Rattle.board.proofs.Rounds.Logging.{logged_none, in_logged}
 use Rattle.board.proofs.Basics.Numbers.{pair_parts}
 

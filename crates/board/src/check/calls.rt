@@ -1,7 +1,8 @@
 // The check of a list of packed moves.
 ghost use Rattle.std.specs.Prelude.{◌≡◌};
 ghost use Rattle.board.specs.Held.{held};
-ghost use Rattle.board.specs.Checks.{check_answer, AcceptsReadings};
+ghost use Rattle.board.specs.Checks.{check_answer};
+ghost use Rattle.board.specs.Accepted.{AcceptsReadings};
 ghost use Rattle.board.specs.Faults.{RefusesFaults};
 
 use crate::check::Fault;

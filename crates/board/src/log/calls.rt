@@ -1,7 +1,7 @@
 // Reading and extending the log.
 ghost use Rattle.std.specs.Prelude.{◌≡◌, ◌<◌, min, length, None as ANone, slice_index_or};
-ghost use Rattle.board.specs.Logs.{Spells, pushed, records, empty};
-ghost use Rattle.board.specs.Logged.{Refers, spelled};
+ghost use Rattle.board.specs.Logs.{Spells, pushed, empty, Refers};
+ghost use Rattle.board.specs.Logged.{spelled, records};
 
 use crate::bounds::{MANY_MOVES, PAIRS};
 use crate::log::{Entry, Log, Source};

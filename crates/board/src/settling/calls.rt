@@ -4,7 +4,7 @@ ghost use Rattle.costs.specs.Meaning.{Cost};
 ghost use Rattle.board.specs.declared.row.RowKind.TheVariants.{Open};
 ghost use Rattle.board.specs.Held.{held};
 ghost use Rattle.board.specs.Moves.{mode, move_row};
-ghost use Rattle.board.specs.Logged.{pair_of};
+ghost use Rattle.board.specs.Logs.{pair_of};
 ghost use Rattle.board.specs.Lowering.{Bounds};
 ghost use Rattle.board.specs.Minima.{Link, Led};
 ghost use Rattle.board.specs.Minimizing.{LinksOf};

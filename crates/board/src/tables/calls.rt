@@ -5,7 +5,7 @@ ghost use Rattle.costs.specs.Meaning.{Cost};
 ghost use Rattle.board.specs.Calls.{with_size, with_row, with_line, with_row_cost, with_line_cost, without_lines};
 ghost use Rattle.board.specs.Content.{new, SoundRow, SoundLine};
 ghost use Rattle.board.specs.Held.{held};
-ghost use Rattle.board.specs.Logged.{pair_of};
+ghost use Rattle.board.specs.Logs.{pair_of};
 ghost use Rattle.board.specs.Moves.{move_row, place_number};
 
 use crate::bounds::{LINES, PLACES, ROWS};

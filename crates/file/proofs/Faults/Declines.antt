@@ -14,7 +14,8 @@ use Rattle.file.specs.declared.refusal.FileRefusal.TheVariants.{CutShort}
 use Rattle.file.specs.declared.refusal.LoadFault.{LoadFault}
 use Rattle.file.specs.Fields.{word2, head_code, head_count}
 use Rattle.file.specs.Parts.{Piece, fault_at}
-use Rattle.file.specs.Sections.{rows_code, lines_code, note_code, may_come, next_section, past}
+use Rattle.file.specs.Sections.{rows_code, lines_code, note_code, next_section, past}
+use Rattle.file.specs.Readers.{may_come}
 use Rattle.file.specs.Records.{go_on, row_record, line_record, record_next, records}
 use Rattle.file.specs.Load.{Loaded, loaded_as, with_content, section_added, at_end, from_note, from_lines, from_rows}
 use Rattle.file.specs.Layout.{Description, in_bytes, head_word, row_word, line_word, row_bytes, line_bytes, one_byte, each_written, section_begun, section_written, header_written, written, Byte, KeepsLimits, content_of}

@@ -3,7 +3,8 @@ use Rattle.std.proofs.Common.{◌≡◌, ℕ, zero, suc, ◌+◌, List, drop, Ok
 use Rattle.board.specs.Content.{Content}
 use Rattle.file.specs.declared.refusal.FileRefusal.{FileRefusal}
 use Rattle.file.specs.declared.refusal.LoadFault.{LoadFault}
-use Rattle.file.specs.Records.{told, go_on, at_place, record_next, records}
+use Rattle.file.specs.Records.{go_on, at_place, record_next, records}
+use Rattle.file.specs.Fillings.{told}
 
 module _ (add : Content → ℕ → Result Content FileRefusal) (bs : List ℕ) (place : ℕ) (c : Content) where
   pub records_none : records add 0 bs place c ≡ Ok c

@@ -8,9 +8,11 @@ use Rattle.file.specs.declared.reader.Stage.{Stage}
 use Rattle.file.specs.declared.reader.Stage.TheVariants as stage
 use Rattle.file.specs.Fields.{head_code}
 use Rattle.file.specs.Parts.{Piece}
-use Rattle.file.specs.Sections.{Reading, Found, next_answer, next_after, next_section, past, may_come, following}
+use Rattle.file.specs.Sections.{Found, next_section, past}
+use Rattle.file.specs.Readers.{Reading, next_answer, next_after, may_come, following}
 use Rattle.file.specs.Records.{go_on}
-use Rattle.file.specs.Load.{Loaded, section_added, comes, in_turn, at_end, from_note, from_lines, from_rows, from_stage}
+use Rattle.file.specs.Load.{Loaded, section_added, comes, in_turn, at_end, from_note, from_lines, from_rows}
+use Rattle.file.specs.Fillings.{from_stage}
 
 -- what an answered section says
 pub record Came (r : Reading) (f : Found) : Type 0 where

@@ -1,10 +1,11 @@
 // From one section to the next.
 ghost use Rattle.std.specs.Prelude.{◌≡◌, ◌+◌, drop, OnOk};
 ghost use Rattle.board.specs.Held.{draft_content};
-ghost use Rattle.file.specs.Sections.{found, found_section, reading};
+ghost use Rattle.file.specs.Readers.{found, found_section, reading};
 ghost use Rattle.file.specs.declared.section.SectionKind.TheVariants.{Note};
-ghost use Rattle.file.specs.Records.{told, record_added, record_next, records};
-ghost use Rattle.file.specs.Load.{so_far, section_added, note_taken, from_stage};
+ghost use Rattle.file.specs.Records.{record_added, record_next, records};
+ghost use Rattle.file.specs.Fillings.{told, so_far, from_stage};
+ghost use Rattle.file.specs.Load.{section_added, note_taken};
 
 use crate::filling::Filling;
 use crate::reader::Reader;

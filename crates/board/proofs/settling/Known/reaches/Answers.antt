@@ -1,7 +1,7 @@
 use Rattle.std.proofs.Common.{ℕ, None, get_or, sym, refl, ap, subst, ◌∙◌}
 use Rattle.board.specs.Held.{held}
 use Rattle.board.specs.Moves.{Place}
-use Rattle.board.specs.Logged.{pair_of}
+use Rattle.board.specs.Logs.{pair_of}
 use Rattle.board.specs.Winning.{Finds, CallAt}
 use Rattle.board.proofs.Least.Knowing.{ready_of}
 use Rattle.board.proofs.Rounds.Diagonal.{place_eq}

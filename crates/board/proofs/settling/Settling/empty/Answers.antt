@@ -1,7 +1,7 @@
 use Rattle.std.proofs.Common.{ap, ◌∙◌}
 use lib.ListN.{length-replicate}
 use Rattle.board.specs.Held.{held}
-use Rattle.board.specs.Logs.{records}
+use Rattle.board.specs.Logged.{records}
 use Rattle.board.specs.Minima.{Plain}
 use Rattle.board.proofs.Least.Plain.{worst_attained}
 use Rattle.board.proofs.Rounds.Starting.{empty_records}
