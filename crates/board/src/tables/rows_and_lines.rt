@@ -1,4 +1,4 @@
-// What is done with the tables.
+// Putting rows and lines into the tables, finding them, and the numbers of places and pairs.
 ghost use Rattle.std.specs.Prelude.{◌≡◌, ◌≢◌, ℕ, ◌*◌, ◌<◌, ◌≤◌, [], length};
 ghost use Rattle.std.specs.List.{slice_get};
 ghost use Rattle.costs.specs.Meaning.{Cost};
