@@ -3,6 +3,7 @@ use Rattle.std.specs.Prelude.{ℕ, Bool, true, cond, ◌&&◌, Some, None, Optio
 use Rattle.board.specs.declared.row.RowKind.{RowKind}
 use Rattle.board.specs.declared.row.RowKind.TheVariants.{Plain, Open, Close, End}
 use Rattle.board.specs.declared.row.Row.{Row}
+use Rattle.board.specs.declared.row.Line.{Line}
 
 -- the number of a kind of row
 abbrev pub kind_number : RowKind → ℕ
@@ -24,3 +25,10 @@ formed Plain r = true
 formed Open r = nat_le r.label 15 && r.action == 0
 formed Close r = nat_le r.label 15 && r.action == 0
 formed End r = r.label == 0 && (r.action == 0 && r.from == r.to)
+
+-- a row and a line of zeros, as one has where none is given
+abbrev pub zero_row : Row
+zero_row = record { kind = Plain; from = 0; to = 0; label = 0; action = 0; cost = 0 }
+
+abbrev pub zero_line : Line
+zero_line = record { from = 0; to = 0; event = 0; cost = 0 }

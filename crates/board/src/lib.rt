@@ -21,7 +21,7 @@ mod writing;
 
 pub use check::Fault;
 pub use draft::Draft;
-pub use moves::{Arrival, Effect, Move, Place};
+pub use moves::Move;
 pub use refusal::Refusal;
 pub use row::{Line, Row, RowKind};
 pub use settled::Settled;

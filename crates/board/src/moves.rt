@@ -1,10 +1,13 @@
 // Places and moves.
+ghost use Rattle.std.proofs.Common.{rules};
+
+use values::{ExactClone, ExactEq};
 
 // A mode and a moment.
 pub type Place = (u8, u8);
 
 // A row, with the line it goes with if it takes one.
-#[derive(Clone, Copy)]
+#[derive(Clone, Copy, Debug, PartialEq, Eq)]
 pub struct Move {
     pub row: u8,
     pub line: Option<u8>,
@@ -29,4 +32,12 @@ pub struct Arrival {
     pub to: Place,
     pub cost: u32,
     pub effect: Effect,
+}
+
+impl ExactClone for Move {
+    ghost clone_is_same = { Prim.search rules };
+}
+
+impl ExactEq for Move {
+    ghost equal_is_same = { Prim.search rules };
 }

@@ -1,8 +1,11 @@
 // Why a call was declined.
 ghost use Rattle.std.specs.Prelude.{◌≡◌, Some};
+ghost use Rattle.std.proofs.Common.{rules};
 ghost use Rattle.board.specs.Refusals.{number, refusal_text};
 
+use std::error::Error;
 use std::fmt;
+use values::{ExactClone, ExactEq, write_plain};
 
 // The board's refusals. Each call gives the first of its own that applies, in the order of the numbers; the check asks this of one move after the other.
 #[derive(Clone, Copy, Debug, PartialEq, Eq)]
@@ -57,11 +60,23 @@ impl Refusal {
     }
 }
 
-// As programs tell it: `no` and its number.
+// As programs tell it, under any options: `no` and its number.
 impl fmt::Display for Refusal {
     ghost output = { λ e. Some (refusal_text e) };
 
+    ghost styled_output = { λ e _. Some (refusal_text e) };
+
     fn fmt<W: fmt::Write>(&self, f: &mut fmt::Formatter<W>) -> fmt::Result {
-        write!(f, "no {}", self.number())
+        write_plain(f, format_args!("no {}", self.number()))
     }
+}
+
+impl Error for Refusal {}
+
+impl ExactClone for Refusal {
+    ghost clone_is_same = { Prim.search rules };
+}
+
+impl ExactEq for Refusal {
+    ghost equal_is_same = { Prim.search rules };
 }

@@ -1,11 +1,14 @@
 // Rows and lines.
 ghost use Rattle.std.specs.Prelude.{◌≡◌, Some, IfOk};
 ghost use Rattle.std.specs.Option.{ok_or};
+ghost use Rattle.std.proofs.Common.{rules};
 ghost use Rattle.board.specs.Calls.{row_at_cost, line_at_cost};
-ghost use Rattle.board.specs.Rows.{kind_number, kind_of_number, formed};
+ghost use Rattle.board.specs.Rows.{kind_number, kind_of_number, formed, zero_row, zero_line};
+
+use values::{ExactClone, ExactEq};
 
 // What a row does. The numbers are those of the file format.
-#[derive(Clone, Copy)]
+#[derive(Clone, Copy, Debug, PartialEq, Eq)]
 pub enum RowKind {
     // 0: changes the mode, alone or with a line of its event
     Plain = 0,
@@ -18,7 +21,7 @@ pub enum RowKind {
 }
 
 // A row of the table.
-#[derive(Clone, Copy, Default)]
+#[derive(Clone, Copy, Debug, PartialEq, Eq)]
 pub struct Row {
     pub kind: RowKind,
     // the mode it leaves, and the mode it enters
@@ -31,7 +34,7 @@ pub struct Row {
 }
 
 // A line of the report.
-#[derive(Clone, Copy, Default)]
+#[derive(Clone, Copy, Debug, PartialEq, Eq)]
 pub struct Line {
     // the moment it leaves, and the moment it enters
     pub from: u8,
@@ -56,6 +59,36 @@ impl Default for RowKind {
     // Plain. (By hand: a derived one has no clause.)
     fn default() -> RowKind {
         RowKind::Plain
+    }
+}
+
+impl Default for Row {
+    ghost is_default = { λ row. row ≡ zero_row };
+
+    // A plain row of zeros.
+    fn default() -> Row {
+        Row {
+            kind: RowKind::Plain,
+            from: 0,
+            to: 0,
+            label: 0,
+            action: 0,
+            cost: 0,
+        }
+    }
+}
+
+impl Default for Line {
+    ghost is_default = { λ line. line ≡ zero_line };
+
+    // A line of zeros.
+    fn default() -> Line {
+        Line {
+            from: 0,
+            to: 0,
+            event: 0,
+            cost: 0,
+        }
     }
 }
 
@@ -103,4 +136,28 @@ impl Line {
     {
         self.cost = cost;
     }
+}
+
+impl ExactClone for RowKind {
+    ghost clone_is_same = { Prim.search rules };
+}
+
+impl ExactEq for RowKind {
+    ghost equal_is_same = { Prim.search rules };
+}
+
+impl ExactClone for Row {
+    ghost clone_is_same = { Prim.search rules };
+}
+
+impl ExactEq for Row {
+    ghost equal_is_same = { Prim.search rules };
+}
+
+impl ExactClone for Line {
+    ghost clone_is_same = { Prim.search rules };
+}
+
+impl ExactEq for Line {
+    ghost equal_is_same = { Prim.search rules };
 }

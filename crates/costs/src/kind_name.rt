@@ -1,5 +1,6 @@
 // The three kinds by their names, and the letters that name them.
 ghost use Rattle.std.specs.Prelude.{◌≡◌, ◌++◌, Some, codes};
+ghost use Rattle.std.proofs.Common.{rules};
 ghost use Rattle.std.proofs.Math.Utf8.{encode};
 ghost use Rattle.costs.specs.Names.{letter_of, named_by, named_under};
 
@@ -9,6 +10,7 @@ use crate::rank::Rank;
 use crate::severity::Severity;
 use std::error::Error;
 use std::fmt;
+use values::{ExactClone, ExactEq, write_plain};
 
 // Which kind of cost, where it is known only when the program runs.
 #[derive(Clone, Copy, Debug, PartialEq, Eq, Hash)]
@@ -58,9 +60,27 @@ impl TryFrom<char> for KindName {
 impl fmt::Display for UnknownLetter {
     ghost output = { λ e. Some (codes "no kind of cost has the letter " ++ encode e.0) };
 
+    ghost styled_output = { λ e _. Some (codes "no kind of cost has the letter " ++ encode e.0) };
+
     fn fmt<W: fmt::Write>(&self, f: &mut fmt::Formatter<W>) -> fmt::Result {
-        write!(f, "no kind of cost has the letter {}", self.0)
+        write_plain(f, format_args!("no kind of cost has the letter {}", self.0))
     }
 }
 
 impl Error for UnknownLetter {}
+
+impl ExactClone for KindName {
+    ghost clone_is_same = { Prim.search rules };
+}
+
+impl ExactEq for KindName {
+    ghost equal_is_same = { Prim.search rules };
+}
+
+impl ExactClone for UnknownLetter {
+    ghost clone_is_same = { Prim.search rules };
+}
+
+impl ExactEq for UnknownLetter {
+    ghost equal_is_same = { Prim.search rules };
+}

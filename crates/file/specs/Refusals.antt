@@ -28,7 +28,10 @@ layer_of CutShort = layer.Bytes
 layer_of (Board e) = layer.Board
 layer_of e = layer.File
 
--- how a declined load is told: `bad`, number, layer and place
+-- how a refusal is told: `bad`, number and layer
+abbrev pub file_refusal_text : FileRefusal → List ℕ
+file_refusal_text e = codes "bad " ++ (decimal (file_number e) ++ (codes " " ++ decimal (layer_number (layer_of e))))
+
+-- how a declined load is told: its refusal, and the place
 abbrev pub load_fault_text : LoadFault → List ℕ
-load_fault_text e =
-    codes "bad " ++ (decimal (file_number e.refusal) ++ (codes " " ++ (decimal (layer_number (layer_of e.refusal)) ++ (codes " " ++ decimal e.place))))
+load_fault_text e = file_refusal_text e.refusal ++ (codes " " ++ decimal e.place)

@@ -1,14 +1,17 @@
 // Calls on a board, and what they answer.
 ghost use Rattle.std.specs.Prelude.{◌≡◌};
+ghost use Rattle.std.proofs.Common.{rules};
+ghost use Rattle.std.specs.Cmp.Rules.{comparing};
 ghost use Rattle.file.specs.Parts.{piece};
 ghost use Rattle.file.specs.Answers.{span, bytes_at};
 
 use crate::part::Note;
 use crate::refusal::LoadFault;
 use board::{Fault, Line, Refusal, Row};
+use values::{ExactClone, ExactEq};
 
 // A call with its arguments. The buffer that `Path` writes into goes beside the call.
-#[derive(Clone, Copy)]
+#[derive(Clone, Copy, Debug, PartialEq, Eq)]
 pub enum Call<'a> {
     Size(u32, u32),
     AddRow(Row),
@@ -79,4 +82,20 @@ pub enum Answer {
     Checked(Result<u32, Fault>),
     // reopening cannot refuse
     Reopened,
+}
+
+impl ExactClone for Call<'_> {
+    ghost clone_is_same = { Prim.search rules };
+}
+
+impl ExactClone for NoteSpan {
+    ghost clone_is_same = { Prim.search rules };
+}
+
+impl ExactEq for NoteSpan {
+    ghost equal_is_same = { Prim.search (comparing, rules) };
+}
+
+impl ExactClone for Answer {
+    ghost clone_is_same = { Prim.search rules };
 }

@@ -1,11 +1,15 @@
 // Why a load was declined.
 ghost use Rattle.std.specs.Prelude.{◌≡◌, Some};
+ghost use Rattle.std.proofs.Common.{rules};
+ghost use Rattle.std.specs.Cmp.Rules.{comparing};
 ghost use Rattle.file.specs.declared.refusal.FileRefusal.TheVariants.{Board};
-ghost use Rattle.file.specs.Refusals.{file_number, layer_number, layer_of, load_fault_text};
+ghost use Rattle.file.specs.Refusals.{file_number, layer_number, layer_of, file_refusal_text, load_fault_text};
 ghost use Rattle.file.specs.Parts.{fault_at};
 
 use board::Refusal;
+use std::error::Error;
 use std::fmt;
+use values::{ExactClone, ExactEq, write_plain};
 
 // Which layer declined.
 #[derive(Clone, Copy, Debug, PartialEq, Eq)]
@@ -112,13 +116,53 @@ impl LoadFault {
     }
 }
 
-// As programs tell it: `bad`, number, layer and place.
+// As programs tell it, under any options: `bad`, number and layer.
+impl fmt::Display for FileRefusal {
+    ghost output = { λ e. Some (file_refusal_text e) };
+
+    ghost styled_output = { λ e _. Some (file_refusal_text e) };
+
+    fn fmt<W: fmt::Write>(&self, f: &mut fmt::Formatter<W>) -> fmt::Result {
+        let layer = self.layer().number();
+        write_plain(f, format_args!("bad {} {layer}", self.number()))
+    }
+}
+
+impl Error for FileRefusal {}
+
+// As programs tell it, under any options: its refusal, and the place.
 impl fmt::Display for LoadFault {
     ghost output = { λ e. Some (load_fault_text e) };
 
+    ghost styled_output = { λ e _. Some (load_fault_text e) };
+
     fn fmt<W: fmt::Write>(&self, f: &mut fmt::Formatter<W>) -> fmt::Result {
-        let number = self.number();
-        let layer = self.layer().number();
-        write!(f, "bad {number} {layer} {}", self.place)
+        write_plain(f, format_args!("{} {}", self.refusal, self.place))
     }
+}
+
+impl Error for LoadFault {}
+
+impl ExactClone for Layer {
+    ghost clone_is_same = { Prim.search rules };
+}
+
+impl ExactEq for Layer {
+    ghost equal_is_same = { Prim.search (comparing, rules) };
+}
+
+impl ExactClone for FileRefusal {
+    ghost clone_is_same = { Prim.search rules };
+}
+
+impl ExactEq for FileRefusal {
+    ghost equal_is_same = { Prim.search (comparing, rules) };
+}
+
+impl ExactClone for LoadFault {
+    ghost clone_is_same = { Prim.search rules };
+}
+
+impl ExactEq for LoadFault {
+    ghost equal_is_same = { Prim.search (comparing, rules) };
 }

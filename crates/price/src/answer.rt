@@ -1,5 +1,6 @@
 // What a line comes to.
 ghost use Rattle.std.specs.Prelude.{◌≡◌, ◌++◌, Some, codes, decimal};
+ghost use Rattle.std.proofs.Common.{rules};
 ghost use Rattle.std.proofs.Math.Utf8.{encode};
 ghost use Rattle.costs.specs.Names.{letter_of};
 ghost use Rattle.price.specs.declared.answer.Fault.TheVariants.{OutOfMemory};
@@ -7,6 +8,7 @@ ghost use Rattle.price.specs.declared.answer.Fault.TheVariants.{OutOfMemory};
 use costs::KindName;
 use std::alloc::{AllocError, AllocFailed};
 use std::fmt;
+use values::{ExactClone, write_plain};
 
 // What the costs of a line make, joined.
 #[derive(Clone, Copy)]
@@ -32,9 +34,11 @@ pub type Answer<'a> = Result<Option<Total>, Fault<'a>>;
 impl fmt::Display for Total {
     ghost output = { λ t. Some (encode (letter_of t.kind) ++ (codes " " ++ decimal t.cost)) };
 
+    ghost styled_output = { λ t _. Some (encode (letter_of t.kind) ++ (codes " " ++ decimal t.cost)) };
+
     fn fmt<W: fmt::Write>(&self, f: &mut fmt::Formatter<W>) -> fmt::Result {
         let letter = self.kind.letter();
-        write!(f, "{letter} {}", self.cost)
+        write_plain(f, format_args!("{letter} {}", self.cost))
     }
 }
 
@@ -52,4 +56,12 @@ impl<T: Drop> From<AllocFailed<T>> for Fault<'_> {
     fn from(_e: AllocFailed<T>) -> Self {
         Fault::OutOfMemory
     }
+}
+
+impl ExactClone for Total {
+    ghost clone_is_same = { Prim.search rules };
+}
+
+impl ExactClone for Fault<'_> {
+    ghost clone_is_same = { Prim.search rules };
 }
