@@ -1,17 +1,17 @@
 -- The promises of settling, put together.
 use Rattle.board.specs.Promises.{SettlingPromises, SettlingComputed, BoardPromises}
-use Rattle.board.proofs.Spelling.{spelled}
-use Rattle.board.proofs.Pairs.{record_on, distinct}
-use Rattle.board.proofs.Minimal.{minimal, least_cost, record_below, rising}
-use Rattle.board.proofs.Readings.{recorded_complete, recorded_cheapest, none_complete, none_read}
-use Rattle.board.proofs.Existence.{exists}
-use Rattle.board.proofs.Uniqueness.{unique}
-use Rattle.board.proofs.Single.{one_reading}
-use Rattle.board.proofs.Finding.{answered, computed}
-use Rattle.board.proofs.Easing.{answer_eased}
-use Rattle.board.proofs.Depth.{settled_checked}
-use Rattle.board.proofs.Keeps.{calls_keep}
-use Rattle.board.proofs.Softening.{calls_ease}
+use Rattle.board.proofs.Rounds.Spelling.{spelled}
+use Rattle.board.proofs.Rounds.Pairs.{record_on, distinct}
+use Rattle.board.proofs.Rounds.Minimal.{minimal, least_cost, record_below, rising}
+use Rattle.board.proofs.Questions.Readings.{recorded_complete, recorded_cheapest, none_complete, none_read}
+use Rattle.board.proofs.Rounds.Existence.{exists}
+use Rattle.board.proofs.Rounds.Uniqueness.{unique}
+use Rattle.board.proofs.Questions.Single.{one_reading}
+use Rattle.board.proofs.Questions.Finding.{answered, computed}
+use Rattle.board.proofs.Contents.Easing.{answer_eased}
+use Rattle.board.proofs.Questions.Depth.{settled_checked}
+use Rattle.board.proofs.Contents.Keeps.{calls_keep}
+use Rattle.board.proofs.Contents.Softening.{calls_ease}
 
 pub settling_promises : SettlingPromises
 settling_promises m c laws sound = (

@@ -1,5 +1,5 @@
 -- Checking a list of packed moves, move by move.
-use Rattle.std.specs.Prelude.{◌≡◌, ℕ, suc, ◌≤◌, Bool, false, cond, not, ◌||◌, ◌↔◌, List, [], ◌∷◌, ◌++◌, map, length, Some, None, Ok, Err, codes, decimal, Option, Result, ◌==◌, nat_lt}
+use Rattle.std.specs.Prelude.{ℕ, suc, Bool, false, cond, not, ◌||◌, List, [], ◌∷◌, length, Some, None, Ok, Err, Option, Result, ◌==◌, nat_lt}
 use Rattle.costs.specs.Meaning.{Meaning}
 use Rattle.board.specs.declared.moves.Move.{Move}
 use Rattle.board.specs.declared.moves.Effect.{Effect}
@@ -9,11 +9,9 @@ use Rattle.board.specs.declared.named.Named.{Named}
 use Rattle.board.specs.declared.refusal.Refusal.{Refusal}
 use Rattle.board.specs.declared.refusal.Refusal.TheVariants.{BadMove, NotNext, BadBracket, TooDeep, NoEnd}
 use Rattle.board.specs.declared.check.Fault.{Fault}
-use Rattle.board.specs.Refusals.{refusal_text}
 use Rattle.board.specs.Content.{Content}
 use Rattle.board.specs.Moves.{Place, origin, is_end}
 use Rattle.board.specs.Arrivals.{named, starts_at, leads}
-use Rattle.board.specs.Paths.{stack, Complete}
 use Rattle.board.specs.Packing.{unpacked}
 
 -- the brackets open after one effect, the last one first: at most 4,096 (else 18); what closes closes the last one, and an
@@ -75,22 +73,3 @@ checked_from m c w i (x ∷ xs) = or_fault i (take_move m c w x) (λ v. checked_
 -- Check: the cost of the complete reading that the packed moves are, or the first faulty move.
 abbrev pub check_answer : Meaning → Content → List ℕ → Result ℕ Fault
 check_answer m c xs = checked_from m c (start m) 0 xs
-
--- never more than 4,096 brackets are open, with st open before
-abbrev pub ShallowFrom : List ℕ → List Effect → Type 0
-ShallowFrom st es = (front rest : List Effect) (now-open : List ℕ) → es ≡ front ++ rest → stack front st ≡ Some now-open → length now-open ≤ 4096
-
--- The numbers pack a complete reading, whose cost is k and which never has more than 4,096 brackets open.
-pub record PacksReading (m : Meaning) (c : Content) (xs : List ℕ) (k : ℕ) : Type 0 where
-  pub moves : List Move
-  pub packs : map unpacked xs ≡ map Some moves
-  pub complete : Complete m c moves k
-  pub shallow : ShallowFrom [] complete.body
-
--- the check accepts exactly the complete readings with at most 4,096 brackets open at any time, at their cost
-abbrev pub AcceptsReadings : Meaning → Content → List ℕ → Result ℕ Fault → Type 0
-AcceptsReadings m c xs r = (k : ℕ) → (r ≡ Ok k) ↔ PacksReading m c xs k
-
--- how a faulty move is told: the refusal and the move's index
-abbrev pub fault_text : Fault → List ℕ
-fault_text e = refusal_text e.refusal ++ (codes " at " ++ decimal e.index)

@@ -12,7 +12,7 @@ use Rattle.board.specs.Content.{Content}
 use Rattle.board.specs.Moves.{Place, origin, Transition}
 use Rattle.board.specs.Paths.{Path, stack, Running}
 use Rattle.board.specs.Packing.{unpacked}
-use Rattle.board.specs.Checks.{ShallowFrom, PacksReading}
+use Rattle.board.specs.Accepted.{ShallowFrom, PacksReading}
 
 -- The numbers pack a path from place 0 on which no end row comes, each close row closes the bracket opened last of those
 -- still open, and never more than 4,096 are open. It comes to a place, and leaves the brackets unclosed, if any, the last one

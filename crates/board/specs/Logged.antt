@@ -1,12 +1,12 @@
 -- The log that an array of entries stands for.
-use Rattle.std.specs.Prelude.{ℕ, zero, suc, ◌+◌, ◌*◌, ◌<◌, cond, List, [], ◌∷◌, ◌++◌, length, ◌==◌, slice_index_or}
+use Rattle.std.specs.Prelude.{ℕ, zero, suc, ◌+◌, cond, List, [], ◌∷◌, ◌++◌, length, ◌==◌, slice_index_or}
 use Rattle.board.specs.declared.moves.Move.{Move}
-use Rattle.board.specs.Moves.{origin, Place, place_number}
+use Rattle.board.specs.Moves.{origin}
 use Rattle.board.specs.Settling.{Record, Derivation, start, by_step, by_call, bare}
 use Rattle.board.specs.declared.log.Entry.{Entry}
 use Rattle.board.specs.declared.log.Source.{Source}
 use Rattle.board.specs.declared.log.Source.TheVariants.{Start, Step, Call}
-use Rattle.board.specs.Content.{Content}
+use Rattle.board.specs.declared.log.Log.{Log}
 
 -- stands for a number that is not settled
 abbrev pub nobody : Record
@@ -23,12 +23,6 @@ derivation_of Start = start
 derivation_of (Step i v) = by_step v
 derivation_of (Call i j o w t) = by_call o w t
 
--- what a source refers to stands among the first n
-abbrev pub Refers : ℕ → Source → Type 0
-Refers n Start = Unit {0}
-Refers n (Step i v) = i < n
-Refers n (Call i j o w t) = (i < n) × (j < n)
-
 -- the moves of an entry with this source, over the log of the entries before it
 abbrev pub spelled : List Record → Source → List Move
 spelled log Start = []
@@ -43,15 +37,11 @@ record_of log r = record { from = r.from; to = r.to; cost = r.cost; derivation =
 abbrev pub blank : Entry
 blank = record { from = origin; to = origin; cost = 0; source = Start }
 
--- the pair number of two places: first place times 64 plus second
-abbrev pub pair_of : Content → Place → Place → ℕ
-pair_of c s q = place_number c s * 64 + place_number c q
-
 -- the log of the first n entries, the newest first
 unfoldable pub logged : List Entry → ℕ → List Record
 logged rs zero = []
 logged rs (suc n) = record_of (logged rs n) (slice_index_or rs n blank) ∷ logged rs n
 
--- the record of entry i
-abbrev pub record_at : List Entry → ℕ → Record
-record_at rs i = record_of (logged rs i) (slice_index_or rs i blank)
+-- the records of a log, the newest first
+abbrev pub records : Log → List Record
+records l = logged l.entries l.count

@@ -1,23 +1,33 @@
 -- The log: its entries, its index and its lengths, and what a round makes of it.
-use Rattle.std.specs.Prelude.{◌≡◌, ℕ, suc, ◌+◌, ◌<◌, ◌≤◌, min, List, [], ◌∷◌, length, replicate, Some, None, Option, slice_index, slice_index_or, slice_set}
+use Rattle.std.specs.Prelude.{◌≡◌, ℕ, suc, ◌+◌, ◌<◌, ◌≤◌, min, List, [], ◌∷◌, length, replicate, Some, None, Option, slice_index, slice_index_or, slice_set, ◌*◌}
 use Rattle.std.proofs.Props.{props}
 use Rattle.board.specs.declared.log.Source.{Source}
 use Rattle.board.specs.declared.log.Source.TheVariants.{Start, Step, Call}
 use Rattle.costs.specs.Meaning.{Meaning, Cost}
 use Rattle.board.specs.Settling.{Round, Rounds, Record}
 use Rattle.board.specs.Content.{Content, Sound}
-use Rattle.board.specs.Moves.{On}
+use Rattle.board.specs.Moves.{On, Place, place_number}
 use Rattle.board.specs.declared.log.Entry.{Entry}
 use Rattle.board.specs.declared.log.Log.{Log}
-use Rattle.board.specs.Logged.{Refers, pair_of, logged, record_at, blank}
-
--- the records of a log, the newest first
-abbrev pub records : Log → List Record
-records l = logged l.entries l.count
+use Rattle.board.specs.Logged.{blank, records, logged, record_of}
 
 -- the entry number i
 abbrev pub numbered : Log → ℕ → Entry
 numbered l i = slice_index_or l.entries i blank
+
+-- what a source refers to stands among the first n
+abbrev pub Refers : ℕ → Source → Type 0
+Refers n Start = Unit {0}
+Refers n (Step i v) = i < n
+Refers n (Call i j o w t) = (i < n) × (j < n)
+
+-- the pair number of two places: first place times 64 plus second
+abbrev pub pair_of : Content → Place → Place → ℕ
+pair_of c s q = place_number c s * 64 + place_number c q
+
+-- the record of entry i
+abbrev pub record_at : List Entry → ℕ → Record
+record_at rs i = record_of (logged rs i) (slice_index_or rs i blank)
 
 -- the record of entry i
 abbrev pub nth_record : Log → ℕ → Record

@@ -15,8 +15,8 @@ use Rattle.board.specs.Content.{Content}
 use Rattle.board.specs.Rows.{kind_number}
 use Rattle.board.specs.Moves.{Place, place_number, Transition}
 use Rattle.board.specs.Settling.{Record, bare, Candidate}
-use Rattle.board.specs.Logged.{pair_of}
-use Rattle.board.specs.Logs.{records, numbered, Ready}
+use Rattle.board.specs.Logged.{records}
+use Rattle.board.specs.Logs.{numbered, Ready, pair_of}
 use Rattle.board.specs.Lowering.{Costing, Attained, Bounds, Among}
 
 -- where the row o leads from p as an open row, or that it is none there

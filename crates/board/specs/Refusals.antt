@@ -2,6 +2,7 @@
 use Rattle.std.specs.Prelude.{ℕ, Bool, cond, List, [], ◌∷◌, ◌++◌, Some, None, Ok, Err, codes, decimal, Option, Result}
 use Rattle.board.specs.declared.refusal.Refusal.{Refusal}
 use Rattle.board.specs.declared.refusal.Refusal.TheVariants.{NotEmpty, SizeOut, RowsFull, ModeOut, BadRow, LinesFull, MomentOut, NoEvent, NoSuch, NoCost, NoReading, TooLong, PlaceOut, Unsettled, BadMove, NotNext, BadBracket, TooDeep, NoEnd}
+use Rattle.board.specs.declared.check.Fault.{Fault}
 
 -- the number of each refusal
 abbrev pub number : Refusal → ℕ
@@ -43,3 +44,7 @@ unless (Some e) done old = old
 -- how a refusal is told: `no` and its number
 abbrev pub refusal_text : Refusal → List ℕ
 refusal_text e = codes "no " ++ decimal (number e)
+
+-- how a faulty move is told: the refusal and the move's index
+abbrev pub fault_text : Fault → List ℕ
+fault_text e = refusal_text e.refusal ++ (codes " at " ++ decimal e.index)

@@ -17,8 +17,8 @@ use Rattle.board.specs.Content.{Content}
 use Rattle.board.specs.Held.{held}
 use Rattle.board.specs.Moves.{mode, On, place_number}
 use Rattle.board.specs.Settling.{Record, Derivation, by_step, by_call, derivation_key, Lex, Candidate, Cheaper}
-use Rattle.board.specs.Logged.{Refers, derivation_of, record_of}
-use Rattle.board.specs.Logs.{records, numbered}
+use Rattle.board.specs.Logged.{derivation_of, record_of, records}
+use Rattle.board.specs.Logs.{numbered, Refers}
 use Rattle.board.specs.Minima.{Link, StandsFor}
 
 -- Of the unsettled pairs below n that of the least cost, if it is below the worst; the first where some tie.

@@ -1,8 +1,13 @@
 // A cursor on the moves of an entry, from the last back to the first.
-use crate::bounds::PAIRS;
-use arrayvec::ArrayVec;
+ghost use Rattle.std.specs.Prelude.{◌≡◌, ◌<◌, [], ◌∷◌, ◌++◌, length};
+ghost use Rattle.board.specs.Logs.{Spells};
+ghost use Rattle.board.specs.Spelled.{moves_at};
+ghost use Rattle.board.specs.Cursors.{Walks, remaining};
 
-mod steps;
+use crate::bounds::PAIRS;
+use crate::log::{Log, Source};
+use crate::moves::Move;
+use arrayvec::ArrayVec;
 
 // A call whose inside is being read: its open row and then the moves of its front are still to come.
 #[derive(Clone, Copy, Default)]
@@ -16,4 +21,52 @@ pub(crate) struct Pending {
 pub(crate) struct Cursor {
     at: usize,
     stack: ArrayVec<Pending, PAIRS>,
+}
+
+impl Cursor {
+    // Past the last move of the entry i.
+    pub(crate) fn past(i: usize) -> Cursor
+        ensures walks { (l : Log) → i < l.count → Walks l result }
+        ensures all { (l : Log) → remaining l result ≡ moves_at l i }
+    {
+        Cursor {
+            at: i,
+            stack: ArrayVec::new(),
+        }
+    }
+
+    // Gives the last of the moves that are left, and steps back over it.
+    pub(crate) fn previous(&mut self, log: &Log) -> Move
+        requires spells { Spells log.now }
+        requires walks { Walks log.now self.old }
+        requires left { 0 < length (remaining log.now self.old) }
+        ensures walks { Walks log.now self.new }
+        ensures last { remaining log.now self.old ≡ remaining log.now self.new ++ (result ∷ []) }
+    {
+        let entry = log.entries[self.at];
+        match entry.source {
+            Source::Start => {
+                let Some(pending) = self.stack.pop() else {
+                    unreachable!()
+                };
+                self.at = pending.front as usize;
+                Move {
+                    row: pending.row,
+                    line: None,
+                }
+            }
+            Source::Step(front, by) => {
+                self.at = front as usize;
+                by
+            }
+            Source::Call(front, inside, open, close, _) => {
+                self.stack.push(Pending { front, row: open });
+                self.at = inside as usize;
+                Move {
+                    row: close,
+                    line: None,
+                }
+            }
+        }
+    }
 }

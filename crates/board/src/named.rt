@@ -1,11 +1,119 @@
-// What a move names.
-use crate::row::{Line, Row};
+// What a move names, whether that starts at a place, and where it leads.
+ghost use Rattle.std.specs.Prelude.{◌≡◌};
+ghost use Rattle.std.specs.List.{slice_get};
+ghost use Rattle.board.specs.Held.{held};
+ghost use Rattle.board.specs.Moves.{effect, end_moment?};
+ghost use Rattle.board.specs.Arrivals.{takes_line, named, timely, starts_at, leads, arrival_on};
 
-mod calls;
+use crate::moves::{Arrival, Effect, Move, Place};
+use crate::row::{Line, Row, RowKind};
+use crate::tables::Tables;
+use costs::Kind;
 
 // A row that takes no line, or a row with a line of its event.
 #[derive(Clone, Copy)]
 pub(crate) struct Named {
     row: Row,
     line: Option<Line>,
+}
+
+impl Row {
+    // Whether it goes with a line: a plain row with an event.
+    pub(crate) fn takes_line(&self) -> bool
+        ensures { result ≡ takes_line self.now.kind self.now.label }
+    {
+        match self.kind {
+            RowKind::Plain => self.label != 0,
+            RowKind::Open | RowKind::Close | RowKind::End => false,
+        }
+    }
+
+    // What it does to the brackets.
+    pub(crate) fn effect(&self) -> Effect
+        ensures { result ≡ effect self.now }
+    {
+        match self.kind {
+            RowKind::Plain => Effect::Quiet,
+            RowKind::Open => Effect::Opens(self.label),
+            RowKind::Close => Effect::Closes(self.label),
+            RowKind::End => Effect::Ends,
+        }
+    }
+
+    // Whether it may stand at the moment: an end row at the last one only.
+    fn timely(&self, moments: u8, moment: u8) -> bool
+        ensures { result ≡ timely self.now.kind moments moment }
+    {
+        match self.kind {
+            RowKind::Plain | RowKind::Open | RowKind::Close => true,
+            RowKind::End => moment as u16 + 1 == moments as u16,
+        }
+    }
+}
+
+impl Named {
+    // Whether it starts at the place.
+    pub(crate) fn starts_at(&self, moments: u8, place: Place) -> bool
+        ensures { result ≡ starts_at moments self.now place }
+    {
+        place.0 == self.row.from
+            && match self.line {
+                None => place.1 < moments && self.row.timely(moments, place.1),
+                Some(line) => place.1 == line.from,
+            }
+    }
+
+    // Where it leads from the place, at what cost, and what it does to the brackets.
+    pub(crate) fn leads<K: Kind>(&self, place: Place) -> Arrival
+        ensures { result ≡ leads K.meaning self.now place }
+    {
+        let row = self.row;
+        let (moment, cost) = match self.line {
+            None => (place.1, row.cost),
+            Some(line) => (line.to, K::join(row.cost, line.cost)),
+        };
+        Arrival {
+            to: (row.to, moment),
+            cost,
+            effect: row.effect(),
+        }
+    }
+}
+
+impl<K: Kind> Tables<K> {
+    // What the move names: nothing where a row or line is not held, there is a line where the row takes none, or none
+    // of the row's event.
+    pub(crate) fn named(&self, v: Move) -> Option<Named>
+        ensures { result ≡ named (held self.now) v }
+    {
+        let row = self.row(v.row)?;
+        let Some(number) = v.line else {
+            return if row.takes_line() {
+                None
+            } else {
+                Some(Named { row, line: None })
+            };
+        };
+        let line = self.line(number)?;
+        if row.takes_line() && line.event == row.label {
+            Some(Named {
+                row,
+                line: Some(line),
+            })
+        } else {
+            None
+        }
+    }
+
+    // Where the move leads from the place, if it starts there.
+    pub(crate) fn arrival(&self, v: Move, place: Place) -> Option<Arrival>
+        ensures { result ≡ arrival_on K.meaning (held self.now) v place }
+    {
+        let named = self.named(v)?;
+        if named.starts_at(self.moments, place) {
+            Some(named.leads::<K>(place))
+        } else {
+            None
+        }
+    }
 }

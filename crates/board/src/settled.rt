@@ -1,7 +1,8 @@
 // A settled board: its tables, and the log of the settled pairs.
 ghost use Rattle.std.specs.Prelude.{◌≡◌};
 ghost use Rattle.board.specs.Held.{held};
-ghost use Rattle.board.specs.Logs.{Book, Book-prop, records};
+ghost use Rattle.board.specs.Logs.{Book, Book-prop};
+ghost use Rattle.board.specs.Logged.{records};
 ghost use Rattle.board.specs.Computing.{settled_log};
 
 use crate::log::Log;

@@ -8,16 +8,16 @@ use crate::moves::Place;
 use crate::tables::Tables;
 use costs::Kind;
 
-mod calls;
 mod candidates;
 mod closing;
+mod first_call;
+mod first_step;
 mod leads;
 mod links;
 mod lists;
 mod lower;
 mod plain;
 mod rounds;
-mod steps;
 mod winner;
 
 pub(crate) use rounds::settled_log;

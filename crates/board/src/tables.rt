@@ -7,7 +7,7 @@ use arrayvec::ArrayVec;
 use costs::Kind;
 use std::marker::PhantomData;
 
-mod calls;
+mod rows_and_lines;
 
 // The size, M modes and T moments, and at most 128 rows and 128 lines, whose costs are of the kind K.
 #[derive(Drop)]

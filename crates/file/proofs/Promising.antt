@@ -21,7 +21,7 @@ use Rattle.file.specs.Answers.{draft_answer, number_of, refused_with}
 use Rattle.file.specs.Easing.{is_load, Question, cost, Eases, adds_row, adds_line, reprices_row, reprices_line, settles, reopens, asks, declined, AllEase, none, next}
 use Rattle.file.specs.Promise.{settled_cost, cost_or_worst, answered_cost, Writes, written, AnsweredReading, AnswersCheapest, MainPromise}
 use Rattle.file.specs.Promise as promise
-use Rattle.file.proofs.Sounding.{stepped_sound, state_sound}
+use Rattle.file.proofs.Calls.Sounding.{stepped_sound, state_sound}
 
 -- a list of calls in two parts
 pub state_split : (m : Meaning) (s : State) (xs ys : List Call) → state_from m s (xs ++ ys) ≡ state_from m (state_from m s xs) ys

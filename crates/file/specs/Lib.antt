@@ -1,19 +1,26 @@
--- What a reader must believe: how a file is laid out and read, what a load answers and leaves, why it is declined, what a list
--- of calls makes of a board, and the main promise. (Of Sections, what a reader of the file keeps and answers, `Reading`,
--- `admitted`, `next_answer` and `next_after`, serves inner functions alone; Load says by itself in which order sections come.)
-pub mod Refusals
+-- What a reader must believe: how a file is laid out, within which limits, and what it describes; by which rule a load is
+-- declined, and how that is told;
 pub mod Trust
-pub mod Fields
 pub mod Parts
-pub mod Sections
-pub mod Records
-pub mod Load
 pub mod Layout
 pub mod Declined
-pub mod Examples
+pub mod Refusals
+-- what a list of calls makes of a board, what each call answers, and the main promise.
 pub mod States
 pub mod Answers
 pub mod Easing
 pub mod Promise
 pub mod Histories
 pub mod Laws
+-- Executable twins, which read a file from its front: a load accepts and makes what Layout describes, by `LoadsExactly` there,
+-- and is declined as Declined says, by `DeclinesExactly` there. (Of them Declined names a word's fields, the codes of sections
+-- and a line at its trusted cost.)
+pub mod Fields
+pub mod Sections
+pub mod Records
+pub mod Load
+-- Worked examples of the layout and of a load.
+pub mod Examples
+-- What only inner functions and proofs name.
+pub mod Readers
+pub mod Fillings

@@ -1,20 +1,14 @@
 -- What a load answers and leaves, for every list of bytes.
 use Rattle.std.specs.Prelude.{ℕ, Bool, cond, ◌&&◌, List, [], length, drop, Ok, Err, Result, ◌==◌, nat_le, nat_lt}
-use Rattle.costs.specs.declared.kind.Kind.{Ghosts}
 use Rattle.costs.specs.Meaning.{Meaning}
 use Rattle.board.specs.Content.{Content, new}
-use Rattle.board.specs.Held.{draft_content}
 use Rattle.board.specs.Calls.{size_fault, size_after}
 use Rattle.file.specs.declared.fields.Header.{Header}
 use Rattle.file.specs.declared.refusal.FileRefusal.{FileRefusal}
 use Rattle.file.specs.declared.refusal.FileRefusal.TheVariants.{CutShort, WrongSection}
 use Rattle.file.specs.declared.refusal.LoadFault.{LoadFault}
-use Rattle.file.specs.declared.reader.Stage.{Stage}
-use Rattle.file.specs.declared.reader.Stage.TheVariants as stage
-use Rattle.file.specs.declared.part.Part.{Part}
-use Rattle.file.specs.declared.filling.Filling.{Filling}
 use Rattle.file.specs.Fields.{word4, header_read, head_code}
-use Rattle.file.specs.Parts.{Piece, piece, fault_at}
+use Rattle.file.specs.Parts.{Piece, fault_at}
 use Rattle.file.specs.Sections.{rows_code, lines_code, note_code, Found, next_section, past}
 use Rattle.file.specs.Records.{go_on, at_place, called, row_record, line_record, records}
 
@@ -26,10 +20,6 @@ pub record Loaded : Type 0 where
 -- this content and this note
 abbrev pub loaded_as : Content → Piece → Loaded
 loaded_as c n = record { content = c; note = n }
-
--- a board that is being filled, and the note so far
-abbrev pub so_far : {K : Type 0} {k : Ghosts K} → Filling K k → Loaded
-so_far f = loaded_as (draft_content f.draft.now) (piece f.note)
 
 -- the same note beside this content
 abbrev pub with_content : Loaded → Content → Result Loaded LoadFault
@@ -76,13 +66,6 @@ from_lines m trust = in_turn m trust lines_code (from_note m trust)
 unfoldable pub from_rows : Meaning → ℕ → Piece → Loaded → Result Loaded LoadFault
 from_rows m trust = in_turn m trust rows_code (from_lines m trust)
 
--- the sections that may come at each stage
-abbrev pub from_stage : Meaning → ℕ → Stage → Piece → Loaded → Result Loaded LoadFault
-from_stage m trust stage.Rows = from_rows m trust
-from_stage m trust stage.Lines = from_lines m trust
-from_stage m trust stage.Note = from_note m trust
-from_stage m trust stage.End = at_end
-
 -- the board sized as the header says, or the board's refusal
 unfoldable pub sized : Header → Content → Result Content FileRefusal
 sized h c = called (size_fault c h.modes h.moments) (size_after c h.modes h.moments)
@@ -106,11 +89,6 @@ opened m bs c =
     cond (nat_lt (length bs) 4) (Err CutShort)
     (go_on (header_read m (word4 bs)) (λ h. go_on (sized h c) (λ d. Ok (record { content = d; trust = h.trust }))))
 
--- an answered trust together with the content that stands then; a refusal leaves that out
-abbrev pub told_trust : Result ℕ FileRefusal → Content → Result Opened FileRefusal
-told_trust (Ok trust) c = Ok (record { content = c; trust = trust })
-told_trust (Err e) c = Err e
-
 -- the header's part, whose place is 0, and then the sections
 abbrev pub filled : Meaning → List ℕ → Content → Result Loaded LoadFault
 filled m bs c =
@@ -119,11 +97,6 @@ filled m bs c =
 -- what the file is read as on a new board
 abbrev pub loaded : Meaning → List ℕ → Result Loaded LoadFault
 loaded m bs = filled m bs new
-
--- an answered note together with the content that stands then; a fault leaves that out
-abbrev pub told_note : Result Part LoadFault → Content → Result Loaded LoadFault
-told_note (Ok p) c = Ok (loaded_as c (piece p))
-told_note (Err e) c = Err e
 
 -- the note, or the fault
 abbrev pub note_answer : Result Loaded LoadFault → Result Piece LoadFault

@@ -1,7 +1,6 @@
 -- Parts of a file, and faults at their places.
 use Rattle.std.specs.Prelude.{ℕ, List, Ok, Err, Result}
 use Rattle.file.specs.declared.part.Part.{Part}
-use Rattle.file.specs.declared.unread.Unread.{Unread}
 use Rattle.file.specs.declared.refusal.FileRefusal.{FileRefusal}
 use Rattle.file.specs.declared.refusal.LoadFault.{LoadFault}
 
@@ -13,10 +12,6 @@ pub record Piece : Type 0 where
 -- the bytes and the place of a part that is handed on
 abbrev pub piece : Part → Piece
 piece p = record { bytes = p.bytes.now; place = p.place }
-
--- those of what is still to be read
-abbrev pub unread : Unread → Piece
-unread u = record { bytes = u.bytes.now; place = u.place }
 
 -- an answered part, or the fault
 abbrev pub answered : Result Part LoadFault → Result Piece LoadFault

@@ -13,11 +13,6 @@ use Rattle.file.specs.Trust.{trusted}
 use Rattle.file.specs.Fields.{word8, row_read, line_read}
 use Rattle.file.specs.Parts.{fault_at}
 
--- an answer together with what stands after it; a refusal leaves that out
-abbrev pub told : {X Y E : Type 0} → Result X E → Y → Result Y E
-told (Ok x) y = Ok y
-told (Err e) y = Err e
-
 -- what follows an answer, unless it is a refusal
 abbrev pub go_on : {X Y E : Type 0} → Result X E → (X → Result Y E) → Result Y E
 go_on (Ok x) next = next x

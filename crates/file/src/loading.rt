@@ -7,7 +7,8 @@ ghost use Rattle.file.specs.Examples.{LayoutExamples};
 ghost use Rattle.file.specs.Parts.{answered};
 ghost use Rattle.file.specs.Layout.{LoadsExactly, longest};
 ghost use Rattle.file.specs.Declined.{DeclinesExactly};
-ghost use Rattle.file.specs.Load.{told_note, told_trust, opened, filled, note_answer, content_left, load_answer, load_after};
+ghost use Rattle.file.specs.Load.{opened, filled, note_answer, content_left, load_answer, load_after};
+ghost use Rattle.file.specs.Fillings.{told_note, told_trust};
 
 use crate::fields::read_header;
 use crate::filling::Filling;

@@ -1,6 +1,6 @@
 // A reader of a file's sections.
 ghost use Rattle.std.specs.Prelude.{◌≡◌};
-ghost use Rattle.file.specs.Sections.{reading, found_read, found_next, admitted, stage_after, section_answer, next_answer, next_after};
+ghost use Rattle.file.specs.Readers.{reading, found_read, found_next, admitted, stage_after, section_answer, next_answer, next_after};
 
 use crate::fields::read_head;
 use crate::refusal::{FileRefusal, LoadFault};

@@ -5,7 +5,8 @@ ghost use Rattle.board.specs.Content.{Content};
 ghost use Rattle.board.specs.Held.{draft_content};
 ghost use Rattle.file.specs.declared.refusal.FileRefusal.{FileRefusal};
 ghost use Rattle.file.specs.Fields.{row_read, line_read};
-ghost use Rattle.file.specs.Records.{told, row_added, line_added, trusted_line};
+ghost use Rattle.file.specs.Records.{row_added, line_added, trusted_line};
+ghost use Rattle.file.specs.Fillings.{told};
 
 use crate::fields::bits;
 use crate::refusal::FileRefusal;

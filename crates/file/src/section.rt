@@ -1,6 +1,7 @@
 // The sections of a file.
 ghost use Rattle.std.specs.Prelude.{◌≡◌};
-ghost use Rattle.file.specs.Sections.{section_code, section_size, found, found_section};
+ghost use Rattle.file.specs.Sections.{section_size};
+ghost use Rattle.file.specs.Readers.{section_code, found, found_section};
 
 use crate::unread::Unread;
 

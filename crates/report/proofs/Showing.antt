@@ -19,7 +19,8 @@ use Rattle.board.specs.Paths.{Path, stop, go}
 use Rattle.board.specs.Settling.{Record, RecordedReading, HasNoReading}
 use Rattle.board.specs.Computing.{settled_log, ReadingFound, found}
 use Rattle.board.specs.Promises.{BoardPromises, Cheapest, Computed, NoneBelow}
-use Rattle.board.specs.Questions.{cost_told, cost_answer, Written}
+use Rattle.board.specs.Questions.{cost_told, cost_answer}
+use Rattle.board.specs.Meanings.{Written}
 use Rattle.file.specs.declared.refusal.LoadFault.{LoadFault}
 use Rattle.file.specs.Load.{load_answer, load_after}
 use Rattle.file.specs.Parts.{Piece}

@@ -11,7 +11,8 @@ use Rattle.file.specs.Histories.{defined_records}
 use Rattle.costs.specs.declared.kind_name.KindName.{KindName}
 use Rattle.script.specs.declared.command.Command.{Command}
 use Rattle.script.specs.declared.command.Command.TheVariants.{Kind, Size, AddRow, AddLine, RepriceRow, RepriceLine, ClearLines, Load, Settle, Reopen, Cost, Path, Between, Check}
-use Rattle.script.specs.Calls.{Call, kind, size, row, line, reprice_row, reprice_line, clear, load, settle, reopen, cost, path, between, check, command_of, without_address, on_board}
+use Rattle.script.specs.Calls.{Call, kind, size, row, line, reprice_row, reprice_line, clear, load, settle, reopen, cost, path, between, check, command_of, on_board}
+use Rattle.script.specs.Sessions.{without_address}
 use Rattle.script.specs.Telling.{file_of, told_text}
 use Rattle.script.specs.Printing.{Standing, made_text, board_text, board_after, call_text, call_after}
 

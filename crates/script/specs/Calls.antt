@@ -54,12 +54,6 @@ command_of (Check xs) = check (vec_items xs)
 abbrev pub behind : {A : Type 0} → List A → Bor (List A)
 behind xs = record { ref_ptr = (0, 0); now = xs }
 
--- a call on a board with the address of its bytes or moves set to 0, so that calls of the same contents are the same
-abbrev pub without_address : BoardCall → BoardCall
-without_address (board.Load bs) = board.Load (behind bs.now)
-without_address (board.Check xs) = board.Check (behind xs.now)
-without_address x = x
-
 -- the call on a board that a script's call makes; naming a kind makes none
 abbrev pub on_board : Call → Option BoardCall
 on_board (kind k) = None

@@ -1,11 +1,16 @@
+-- What a reader must believe: the calls of a script, how each is written as a line, and how lines are read (that a written call
+-- is read back says `ReadsWritten` of Written);
 pub mod Calls
-pub mod Errors
 pub mod Names
+pub mod Written
+pub mod Errors
 pub mod Forms
 pub mod Runs
 pub mod Script
-pub mod Written
+-- what is printed of an answer and of a script.
 pub mod Telling
 pub mod Printing
-pub mod Sessions
+-- Worked scripts, and what is printed of them.
 pub mod Worked
+-- What only inner functions and proofs name.
+pub mod Sessions

@@ -11,8 +11,6 @@ use Rattle.script.specs.declared.name.Name.{Name}
 use Rattle.script.specs.declared.name.Name.TheVariants.{Kind, Size, Row, Line, RepriceRow, RepriceLine, Clear, Load, Settle, Reopen, Cost, Path, Between, Check}
 use Rattle.script.specs.declared.command.Command.{Command}
 use Rattle.script.specs.declared.error.ParseError.{ParseError}
-use Rattle.script.specs.declared.running.Said.{Said}
-use Rattle.script.specs.declared.running.Said.TheVariants.{Nothing, Call as ACall, Unreadable as NotReadable}
 use Rattle.script.specs.declared.error.ParseError.TheVariants.{Unreadable, OutOfMemory}
 
 -- What a line says.
@@ -76,9 +74,3 @@ parsed_of (Ok None) = Some skip
 parsed_of (Ok (Some c)) = Some (call (command_of c))
 parsed_of (Err Unreadable) = Some unreadable
 parsed_of (Err OutOfMemory) = None
-
--- what the code took from a line, where memory sufficed
-abbrev pub said : Said → LineParsed
-said Nothing = skip
-said NotReadable = unreadable
-said (ACall c) = call (command_of c)

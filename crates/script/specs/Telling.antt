@@ -1,8 +1,7 @@
 -- What is printed of a call's answer.
 use Rattle.std.specs.Prelude.{ℕ, cond, List, [], ◌++◌, length, Ok, Err, codes, decimal, Result, nat_le}
 use Rattle.std.specs.List.{flat_map}
-use Rattle.board.specs.Refusals.{refusal_text}
-use Rattle.board.specs.Checks.{fault_text}
+use Rattle.board.specs.Refusals.{refusal_text, fault_text}
 use Rattle.file.specs.Refusals.{load_fault_text}
 use Rattle.file.specs.declared.call.Call.{Call}
 use Rattle.file.specs.declared.call.Call.TheVariants.{Load}

@@ -1,7 +1,8 @@
 // The calls that a script makes.
 ghost use Rattle.std.specs.Prelude.{◌≡◌};
 ghost use Rattle.std.specs.Option.{option_map};
-ghost use Rattle.script.specs.Calls.{command_of, without_address, on_board};
+ghost use Rattle.script.specs.Calls.{command_of, on_board};
+ghost use Rattle.script.specs.Sessions.{without_address};
 
 use board::{Line, Row};
 use costs::KindName;

@@ -5,10 +5,10 @@ ghost use Rattle.board.specs.Content.{new};
 ghost use Rattle.file.specs.States.{draft};
 ghost use Rattle.file.specs.Histories.{state_of};
 ghost use Rattle.script.specs.Calls.{command_of, on_board};
-ghost use Rattle.script.specs.Script.{script_part_of, line_parsed, said};
+ghost use Rattle.script.specs.Script.{script_part_of, line_parsed};
 ghost use Rattle.script.specs.Printing.{buffer_of, made_text, made_state, board_text, board_after, call_text, call_after, printed, PrintsAnswers};
 ghost use Rattle.script.specs.Worked.{WorkedScripts};
-ghost use Rattle.script.specs.Sessions.{standing};
+ghost use Rattle.script.specs.Sessions.{standing, said};
 
 use crate::command::Command;
 use crate::error::ParseError;

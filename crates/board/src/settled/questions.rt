@@ -1,11 +1,13 @@
 // What a settled board answers.
 ghost use Rattle.std.specs.Prelude.{◌≡◌};
 ghost use Rattle.board.specs.Boards.{settled_content, settled_records};
-ghost use Rattle.board.specs.Checks.{check_answer, AcceptsReadings};
+ghost use Rattle.board.specs.Checks.{check_answer};
+ghost use Rattle.board.specs.Accepted.{AcceptsReadings};
 ghost use Rattle.board.specs.Faults.{RefusesFaults};
 ghost use Rattle.board.specs.Paths.{GrammarIsStack};
 ghost use Rattle.board.specs.Promises.{MovesComputed, OneCost};
-ghost use Rattle.board.specs.Questions.{between_answer, cost_answer, path_answer, path_after, CostMeans, PathMeans, BetweenMeans};
+ghost use Rattle.board.specs.Questions.{between_answer, cost_answer, path_answer, path_after};
+ghost use Rattle.board.specs.Meanings.{CostMeans, PathMeans, BetweenMeans};
 
 use crate::bounds::MANY_MOVES;
 use crate::check::Fault;

@@ -1,8 +1,8 @@
 // Finding the recorded reading.
 ghost use Rattle.std.specs.Prelude.{◌≡◌, length};
-ghost use Rattle.board.specs.Boards.{settled_content, settled_records, entry_record, reading_of};
+ghost use Rattle.board.specs.Boards.{settled_content, settled_records};
 ghost use Rattle.board.specs.Computing.{record_between, reading_at, found};
-ghost use Rattle.board.specs.Entries.{EntryIn, ReadingIn};
+ghost use Rattle.board.specs.Entries.{EntryIn, ReadingIn, entry_record, reading_of};
 
 use crate::bounds::PLACES;
 use crate::moves::{Move, Place};

@@ -2,8 +2,8 @@
 ghost use Rattle.std.specs.Prelude.{◌≡◌, ◌+◌, [], ◌∷◌, None as ANone, slice_index_or};
 ghost use Rattle.board.specs.Held.{held};
 ghost use Rattle.board.specs.Settling.{Settled};
-ghost use Rattle.board.specs.Logged.{Refers, pair_of, record_of};
-ghost use Rattle.board.specs.Logs.{Kept, Book, records, Reached, RoundAdded};
+ghost use Rattle.board.specs.Logged.{record_of, records};
+ghost use Rattle.board.specs.Logs.{Kept, Book, Reached, RoundAdded, Refers, pair_of};
 ghost use Rattle.board.specs.Minima.{State};
 ghost use Rattle.board.specs.Winning.{LeastPair};
 

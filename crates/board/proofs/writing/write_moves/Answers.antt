@@ -2,7 +2,7 @@ use Rattle.std.proofs.Common.{◌-◌, length, take, sym, ap, ◌∙◌, arith}
 use Rattle.std.proofs.lemmas.List.{take_all}
 use Rattle.board.specs.Packing.{packed}
 use Rattle.board.specs.Spelled.{moves_at}
-use Rattle.board.proofs.Unwinding.{counted, last_of, write_none, write_more}
+use Rattle.board.proofs.Questions.Unwinding.{counted, last_of, write_none, write_more}
 use Rattle.board.proofs.writing.write_moves.Goals as goal
 
 pub loop-k-init : goal.loop-k-init

@@ -3,7 +3,7 @@ use Rattle.std.proofs.Common.{◌≡◌, take}
 use Rattle.board.specs.Spelled.{moves_at}
 use Rattle.board.specs.Packing.{packed}
 use Rattle.board.specs.Cursors.{Walks, remaining}
-use Rattle.board.proofs.Unwinding.{written}
+use Rattle.board.proofs.Questions.Unwinding.{written}
 
 abbrev pub invariant-loop-k : goal.invariant-loop-k
 invariant-loop-k l = Walks l.log l.cursor × (remaining l.log l.cursor ≡ take l.k (moves_at l.log l.i)) × (l.out ≡ written packed (moves_at l.log l.i) l.initial.out l.n l.k)

@@ -3,7 +3,7 @@ use Rattle.file.specs.declared.call.Call.{Call}
 use Rattle.file.specs.declared.call.Answer.TheVariants.{Loaded}
 use Rattle.file.specs.Parts.{answered}
 use Rattle.file.specs.Answers.{spanned, NoteStands}
-use Rattle.file.proofs.Standing.{load_stands}
+use Rattle.file.proofs.Loads.Standing.{load_stands}
 use Rattle.file.proofs.stepping.edit.Goals as goal
 
 pub returns-in-Load-clause-note : goal.returns-in-Load-clause-note

@@ -1,4 +1,4 @@
-use Rattle.file.proofs.Following.{edits, settles_it, asks_it, reopens_it}
+use Rattle.file.proofs.Calls.Following.{edits, settles_it, asks_it, reopens_it}
 use Rattle.file.proofs.stepping.step.Goals as goal
 
 pub returns-in-Settle : goal.returns-in-Settle

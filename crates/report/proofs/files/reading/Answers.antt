@@ -4,7 +4,8 @@ use Rattle.std.specs.List.{flat_map}
 use Rattle.board.specs.Boards.{settled_content, settled_defined}
 use Rattle.board.specs.Settling.{Record}
 use Rattle.board.specs.Computing.{settled_log}
-use Rattle.board.specs.Questions.{Written, cost_answer}
+use Rattle.board.specs.Questions.{cost_answer}
+use Rattle.board.specs.Meanings.{Written}
 use Rattle.report.specs.Packed.{packed_line}
 use Rattle.report.specs.Least.{settled_lines}
 use Rattle.report.proofs.Showing.{front_packs, front_lines}

@@ -2,8 +2,8 @@ use Rattle.std.proofs.Common.{◌≡◌, List, sym, ap, ◌∙◌, ⊎_elim, ari
 use Rattle.std.proofs.lemmas.Option.{slice_get_within}
 use Rattle.std.specs.List.{slice_get}
 use Rattle.board.specs.declared.cursor.Pending.{Pending}
-use Rattle.board.proofs.Elements.{nth_push}
-use Rattle.board.proofs.Unwinding.{call_in, step_last, call_last}
+use Rattle.board.proofs.Basics.Elements.{nth_push}
+use Rattle.board.proofs.Questions.Unwinding.{call_in, step_last, call_last}
 use Rattle.board.proofs.cursor.Cursor.previous.Goals as goal
 
 pub returns-in-Step-clause-last : goal.returns-in-Step-clause-last

@@ -1,7 +1,7 @@
 use Rattle.board.specs.Held.{held}
 use Rattle.board.proofs.Flight.{settling_examples}
 use Rattle.board.proofs.Promised.{settling_promises, settling_computed, board_promises}
-use Rattle.board.proofs.Uniqueness.{unique}
+use Rattle.board.proofs.Rounds.Uniqueness.{unique}
 use Rattle.board.proofs.draft.Draft.settle.Goals as goal
 
 pub invariant_of-result-clause-settled : goal.invariant_of-result-clause-settled

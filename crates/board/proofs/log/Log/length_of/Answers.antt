@@ -1,6 +1,6 @@
 use Rattle.board.proofs.log.Log.length_of.Goals as goal
 use Rattle.std.proofs.Common.{arith}
-use Rattle.board.proofs.Logging.{step_length, call_length}
+use Rattle.board.proofs.Rounds.Logging.{step_length, call_length}
 
 pub returns-in-Step : goal.returns-in-Step
 returns-in-Step c =

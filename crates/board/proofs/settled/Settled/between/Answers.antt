@@ -1,7 +1,7 @@
 use Rattle.std.proofs.Common.{Ok, arith, rules}
 use Rattle.std.proofs.lemmas.Grind.{common_steps}
 use Rattle.board.specs.Logs.{nth_record}
-use Rattle.board.proofs.Answering.{between_tells}
+use Rattle.board.proofs.Questions.Answering.{between_tells}
 use Rattle.board.proofs.settled.Settled.between.Goals as goal
 
 pub returns-in_err-i-clause-means : goal.returns-in_err-i-clause-means

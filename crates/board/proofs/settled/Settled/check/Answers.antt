@@ -1,5 +1,5 @@
-use Rattle.board.proofs.Balance.{balanced_stack}
-use Rattle.board.proofs.Single.{one_cost}
+use Rattle.board.proofs.Paths.Balance.{balanced_stack}
+use Rattle.board.proofs.Questions.Single.{one_cost}
 use Rattle.board.proofs.settled.Settled.check.Goals as goal
 
 pub returns-clause-single : goal.returns-clause-single

@@ -1,6 +1,6 @@
 use Rattle.std.proofs.Common.{Ok, arith, rules}
 use Rattle.std.proofs.lemmas.Grind.{common_steps}
-use Rattle.board.proofs.Answering.{cost_tells}
+use Rattle.board.proofs.Questions.Answering.{cost_tells}
 use Rattle.board.proofs.settled.Settled.cost.Goals as goal
 
 pub returns-in_err-r-clause-means : goal.returns-in_err-r-clause-means

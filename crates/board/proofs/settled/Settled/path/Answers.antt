@@ -1,8 +1,8 @@
 use Rattle.std.proofs.Common.{Err, arith, rules}
 use Rattle.std.proofs.lemmas.Grind.{common_steps}
 use Rattle.board.specs.declared.refusal.Refusal.TheVariants.{TooLong}
-use Rattle.board.proofs.Answering.{path_tells}
-use Rattle.board.proofs.Telling.{told_small, told_path}
+use Rattle.board.proofs.Questions.Answering.{path_tells}
+use Rattle.board.proofs.Questions.Telling.{told_small, told_path}
 use Rattle.board.proofs.settled.Settled.path.Goals as goal
 
 pub write_moves-n-requires-clause-small : goal.write_moves-n-requires-clause-small

@@ -1,6 +1,6 @@
 use Rattle.std.proofs.Common.{ap, ◌∙◌}
-use Rattle.board.specs.Boards.{reading_of}
-use Rattle.board.proofs.Scanning.{moments_none, moments_more, rows_none, rows_more, rows_all, reading_better, better_within}
+use Rattle.board.specs.Entries.{reading_of}
+use Rattle.board.proofs.Questions.Scanning.{moments_none, moments_more, rows_none, rows_more, rows_all, reading_better, better_within}
 use Rattle.board.proofs.settled.Settled.recorded.Goals as goal
 
 pub loop-n-init : goal.loop-n-init

@@ -2,9 +2,9 @@ use Rattle.std.proofs.Common.{length, arith}
 use Rattle.board.specs.Held.{held}
 use Rattle.board.specs.Logs.{numbered}
 use Rattle.board.specs.Minima.{BracketedOn}
-use Rattle.board.proofs.Knowing.{ready_of}
-use Rattle.board.proofs.Lowering.{lowered_start, lowered_more, lowered_for, among_all}
-use Rattle.board.proofs.Links.{link_cost, in_fits, in_all, in_unmarked}
+use Rattle.board.proofs.Least.Knowing.{ready_of}
+use Rattle.board.proofs.Least.Lowering.{lowered_start, lowered_more, lowered_for, among_all}
+use Rattle.board.proofs.Least.Links.{link_cost, in_fits, in_all, in_unmarked}
 use Rattle.board.proofs.settling.Known.bracket.Goals as goal
 use Rattle.board.proofs.settling.Known.bracket.Goals.{then-leads-o, else-leads-o}
 

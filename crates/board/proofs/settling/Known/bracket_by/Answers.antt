@@ -1,7 +1,7 @@
 use Rattle.std.proofs.Common.{ℕ, ◌+◌, ◌*◌, sym, ap, ap₂, ◌∙◌, arith}
-use Rattle.board.proofs.Knowing.{ready_of}
-use Rattle.board.proofs.Lowering.{lowered_for}
-use Rattle.board.proofs.Links.{no_close_row, no_close_from, bracket_small, bracket_link, bracket_only, bracket_none}
+use Rattle.board.proofs.Least.Knowing.{ready_of}
+use Rattle.board.proofs.Least.Lowering.{lowered_for}
+use Rattle.board.proofs.Least.Links.{no_close_row, no_close_from, bracket_small, bracket_link, bracket_only, bracket_none}
 use Rattle.board.proofs.settling.Known.bracket_by.Goals as goal
 
 pub returns-in_default-clause-lower : goal.returns-in_default-clause-lower

@@ -2,9 +2,9 @@ use Rattle.std.proofs.Common.{sym, ◌∙◌, length, arith}
 use Rattle.board.specs.Held.{held}
 use Rattle.board.specs.Logs.{numbered}
 use Rattle.board.specs.Minima.{BracketedIf}
-use Rattle.board.proofs.Knowing.{ready_of}
-use Rattle.board.proofs.Lowering.{lowered_start, lowered_more, lowered_for, among_all}
-use Rattle.board.proofs.Links.{link_cost, on_fits, on_all, on_none, no_open_row, no_way, leads_elsewhere, leads_there, if_unmarked}
+use Rattle.board.proofs.Least.Knowing.{ready_of}
+use Rattle.board.proofs.Least.Lowering.{lowered_start, lowered_more, lowered_for, among_all}
+use Rattle.board.proofs.Least.Links.{link_cost, on_fits, on_all, on_none, no_open_row, no_way, leads_elsewhere, leads_there, if_unmarked}
 use Rattle.board.proofs.settling.Known.bracket_on.Goals as goal
 use Rattle.board.proofs.settling.Known.bracket_on.Goals.{then-leads-w, else-leads-w}
 

@@ -1,10 +1,10 @@
 use Rattle.std.proofs.Common.{ℕ, None, get_or, sym, ap, ◌∙◌, arith}
 use Rattle.board.specs.Held.{held}
 use Rattle.board.specs.Logs.{numbered}
-use Rattle.board.proofs.Knowing.{ready_of}
-use Rattle.board.proofs.Numbers.{pair_in}
-use Rattle.board.proofs.Standing.{leaves_on, enters_on}
-use Rattle.board.proofs.Calling.{between_places, call_no_front, call_no_inside, call_no_cost, call_wins}
+use Rattle.board.proofs.Least.Knowing.{ready_of}
+use Rattle.board.proofs.Basics.Numbers.{pair_in}
+use Rattle.board.proofs.Paths.Standing.{leaves_on, enters_on}
+use Rattle.board.proofs.Least.Calling.{between_places, call_no_front, call_no_inside, call_no_cost, call_wins}
 use Rattle.board.proofs.settling.Known.call_at.Goals as goal
 
 pub at-requires : goal.at-requires

@@ -1,8 +1,8 @@
 use Rattle.std.proofs.Common.{ℕ, None, subst}
 use Rattle.board.specs.Held.{held}
 use Rattle.board.specs.Winning.{Finds, CallAt}
-use Rattle.board.proofs.Knowing.{ready_of}
-use Rattle.board.proofs.Calling.{other_mode, same_moment, none_while_more, call_none_by, call_wins_by}
+use Rattle.board.proofs.Least.Knowing.{ready_of}
+use Rattle.board.proofs.Least.Calling.{other_mode, same_moment, none_while_more, call_none_by, call_wins_by}
 use Rattle.board.proofs.settling.Known.call_by.Goals as goal
 use Rattle.board.proofs.settling.Known.call_by.Goals.{then-place-a+in_default, else-place-a}
 

@@ -1,7 +1,7 @@
 use Rattle.std.proofs.Common.{sym, ◌∙◌, arith}
 use Rattle.board.specs.Held.{held}
-use Rattle.board.proofs.Knowing.{ready_of}
-use Rattle.board.proofs.Calling.{no_bracket, no_close, no_close_more, no_close_left, first_close}
+use Rattle.board.proofs.Least.Knowing.{ready_of}
+use Rattle.board.proofs.Least.Calling.{no_bracket, no_close, no_close_more, no_close_left, first_close}
 use Rattle.board.proofs.settling.Known.call_opened.Goals as goal
 use Rattle.board.proofs.settling.Known.call_opened.Goals.{in-Some+then-closes_to+in_default-call_by, in-Some+else-closes_to, in_default}
 

@@ -1,5 +1,5 @@
 use Rattle.board.specs.Held.{held}
-use Rattle.board.proofs.Calling.{NoCloseBelow}
+use Rattle.board.proofs.Least.Calling.{NoCloseBelow}
 use Rattle.board.proofs.settling.Known.call_opened.Given as goal
 
 abbrev pub invariant-loop-w : goal.invariant-loop-w

@@ -1,6 +1,6 @@
 use Rattle.std.proofs.Common.{sym, ◌∙◌, arith}
 use Rattle.std.proofs.lemmas.Bool.{both_ways}
-use Rattle.board.proofs.Gathering.{gathered_push, closer_no_row, closer_other, closers_serve}
+use Rattle.board.proofs.Least.Gathering.{gathered_push, closer_no_row, closer_other, closers_serve}
 use Rattle.board.proofs.settling.Known.closers.Goals as goal
 use Rattle.board.proofs.settling.Known.closers.Goals.{in-Some+then-leads-w+then-is_close+then-close-mode, in-Some+else-leads-w, else-leads-w-via-then-leads-w+then-is_close+else-close-mode, else-leads-w-via-then-leads-w+else-is_close, else-leads-w-via-else-leads-w, in_default}
 

@@ -1,8 +1,8 @@
 use Rattle.std.proofs.Common.{sym, ap, ◌∙◌}
 use Rattle.board.specs.declared.row.Row.{Row}
 use Rattle.board.specs.Held.{held}
-use Rattle.board.proofs.Membership.{some_eq, none_some}
-use Rattle.board.proofs.Gathering.{picked_none, picked_skip, picked_push, picked_serve}
+use Rattle.board.proofs.Basics.Membership.{some_eq, none_some}
+use Rattle.board.proofs.Least.Gathering.{picked_none, picked_skip, picked_push, picked_serve}
 use Rattle.board.proofs.settling.Known.closers_of.Goals as goal
 use Rattle.board.proofs.settling.Known.closers_of.Goals.{in-Some+then-close-bracket, in-Some+else-close-bracket, in_default}
 

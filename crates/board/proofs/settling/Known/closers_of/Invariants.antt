@@ -1,5 +1,5 @@
 use Rattle.board.specs.Held.{held}
-use Rattle.board.proofs.Gathering.{Picked}
+use Rattle.board.proofs.Least.Gathering.{Picked}
 use Rattle.board.proofs.settling.Known.closers_of.Given as goal
 
 abbrev pub invariant-loop-n : goal.invariant-loop-n

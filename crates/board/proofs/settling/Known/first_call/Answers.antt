@@ -1,8 +1,8 @@
 use Rattle.std.proofs.Common.{sym, ap, ◌∙◌, arith}
 use Rattle.board.specs.Held.{held}
 use Rattle.board.specs.declared.row.Row.{Row}
-use Rattle.board.proofs.Membership.{some_eq, none_some}
-use Rattle.board.proofs.Calling.{no_open, no_open_more, no_open_left, first_open}
+use Rattle.board.proofs.Basics.Membership.{some_eq, none_some}
+use Rattle.board.proofs.Least.Calling.{no_open, no_open_more, no_open_left, first_open}
 use Rattle.board.proofs.settling.Known.first_call.Goals as goal
 use Rattle.board.proofs.settling.Known.first_call.Goals.{in-Some+in-Open+in_default-call_opened, in-Some+in_default-kind, in_default}
 

@@ -1,5 +1,5 @@
 use Rattle.board.specs.Held.{held}
-use Rattle.board.proofs.Calling.{NoOpenBelow}
+use Rattle.board.proofs.Least.Calling.{NoOpenBelow}
 use Rattle.board.proofs.settling.Known.first_call.Given as goal
 
 abbrev pub invariant-loop-o : goal.invariant-loop-o

@@ -1,6 +1,6 @@
 use Rattle.std.proofs.Common.{arith}
 use Rattle.board.specs.Held.{held}
-use Rattle.board.proofs.Winning.{no_step_more, no_step, first_row}
+use Rattle.board.proofs.Least.Winning.{no_step_more, no_step, first_row}
 use Rattle.board.proofs.settling.Known.first_step.Goals as goal
 
 pub loop-row-init : goal.loop-row-init

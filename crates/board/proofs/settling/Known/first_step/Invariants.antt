@@ -1,5 +1,5 @@
 use Rattle.board.specs.Held.{held}
-use Rattle.board.proofs.Winning.{NoStepBelow}
+use Rattle.board.proofs.Least.Winning.{NoStepBelow}
 use Rattle.board.proofs.settling.Known.first_step.Given as goal
 
 abbrev pub invariant-loop-row : goal.invariant-loop-row

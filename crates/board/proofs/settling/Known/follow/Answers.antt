@@ -1,7 +1,7 @@
 use Rattle.std.proofs.Common.{rules, arith}
-use Rattle.board.proofs.Knowing.{ready_of}
-use Rattle.board.proofs.Lowering.{lowered_start, lowered_more}
-use Rattle.board.proofs.Links.{candidate_cost_at, follow_fits, follow_waits, follow_only}
+use Rattle.board.proofs.Least.Knowing.{ready_of}
+use Rattle.board.proofs.Least.Lowering.{lowered_start, lowered_more}
+use Rattle.board.proofs.Least.Links.{candidate_cost_at, follow_fits, follow_waits, follow_only}
 use Rattle.board.proofs.settling.Known.follow.Goals as goal
 
 pub loop-q-init : goal.loop-q-init

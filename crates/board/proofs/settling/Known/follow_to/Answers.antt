@@ -1,7 +1,7 @@
 use Rattle.std.proofs.Common.{refl, sym, ◌∙◌, arith}
-use Rattle.board.proofs.Knowing.{ready_of}
-use Rattle.board.proofs.Lowering.{lowered_start, lowered_more}
-use Rattle.board.proofs.Links.{candidate_cost_at, front_found, follow_to_fits, follow_to_waits, follow_to_only, follow_to_none}
+use Rattle.board.proofs.Least.Knowing.{ready_of}
+use Rattle.board.proofs.Least.Lowering.{lowered_start, lowered_more}
+use Rattle.board.proofs.Least.Links.{candidate_cost_at, front_found, follow_to_fits, follow_to_waits, follow_to_only, follow_to_none}
 use Rattle.board.proofs.settling.Known.follow_to.Goals as goal
 use Rattle.board.proofs.settling.Known.follow_to.Goals.{in-Some, in_default}
 

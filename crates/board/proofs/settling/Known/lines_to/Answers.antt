@@ -1,6 +1,6 @@
 use Rattle.std.proofs.Common.{sym, ◌∙◌}
 use Rattle.board.specs.Held.{held}
-use Rattle.board.proofs.Gathering.{gathered_push, line_other, line_none}
+use Rattle.board.proofs.Least.Gathering.{gathered_push, line_other, line_none}
 use Rattle.board.proofs.settling.Known.lines_to.Goals as goal
 use Rattle.board.proofs.settling.Known.lines_to.Goals.{in-Some+then-line-moment, in-Some+else-line-moment, in_default}
 

@@ -1,6 +1,6 @@
 use Rattle.std.proofs.Common.{rules}
-use Rattle.board.proofs.Knowing.{ready_of}
-use Rattle.board.proofs.Links.{link_lower, link_followed}
+use Rattle.board.proofs.Least.Knowing.{ready_of}
+use Rattle.board.proofs.Least.Links.{link_lower, link_followed}
 use Rattle.board.proofs.settling.Known.link.Goals as goal
 
 pub returns-then-lower-clause-ok : goal.returns-then-lower-clause-ok

@@ -1,12 +1,12 @@
 use Rattle.std.proofs.Common.{ℕ, None, get_or, sym, refl, ap, subst, ◌∙◌}
 use Rattle.board.specs.Held.{held}
 use Rattle.board.specs.Moves.{Place}
-use Rattle.board.specs.Logged.{pair_of}
+use Rattle.board.specs.Logs.{pair_of}
 use Rattle.board.specs.Winning.{Finds, CallAt}
-use Rattle.board.proofs.Knowing.{ready_of}
-use Rattle.board.proofs.Diagonal.{place_eq}
-use Rattle.board.proofs.Bracketing.{place_unique}
-use Rattle.board.proofs.Calling.{other_mode, same_moment, none_while_more, none_reached, reaches_no_front}
+use Rattle.board.proofs.Least.Knowing.{ready_of}
+use Rattle.board.proofs.Rounds.Diagonal.{place_eq}
+use Rattle.board.proofs.Least.Bracketing.{place_unique}
+use Rattle.board.proofs.Least.Calling.{other_mode, same_moment, none_while_more, none_reached, reaches_no_front}
 use Rattle.board.proofs.settling.Known.reaches.Goals as goal
 use Rattle.board.proofs.settling.Known.reaches.Goals.{then-place-a+in-Some+else-reaches_from, then-place-a+in_default, else-place-a}
 

@@ -1,10 +1,10 @@
 use Rattle.std.proofs.Common.{ℕ, None, get_or, sym, ap, ◌∙◌, arith}
 use Rattle.board.specs.Held.{held}
 use Rattle.board.specs.Logs.{numbered}
-use Rattle.board.proofs.Knowing.{ready_of}
-use Rattle.board.proofs.Numbers.{pair_in}
-use Rattle.board.proofs.Standing.{leaves_on, enters_on}
-use Rattle.board.proofs.Calling.{between_places, none_by_more, none_by_all, serves_no_row, serves_no_inside, serves_dear}
+use Rattle.board.proofs.Least.Knowing.{ready_of}
+use Rattle.board.proofs.Basics.Numbers.{pair_in}
+use Rattle.board.proofs.Paths.Standing.{leaves_on, enters_on}
+use Rattle.board.proofs.Least.Calling.{between_places, none_by_more, none_by_all, serves_no_row, serves_no_inside, serves_dear}
 use Rattle.board.proofs.settling.Known.reaches_from.Goals as goal
 use Rattle.board.proofs.settling.Known.reaches_from.Goals.{in-Some+in-Some-at+else-no_dearer, in-Some+in_default-at, in_default}
 

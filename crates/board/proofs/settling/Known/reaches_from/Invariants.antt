@@ -1,7 +1,7 @@
 use Rattle.std.proofs.Common.{ℕ, ◌<◌, get_or}
 use Rattle.board.specs.Held.{held}
 use Rattle.board.specs.Minima.{StandsFor}
-use Rattle.board.proofs.Calling.{CallParts}
+use Rattle.board.proofs.Least.Calling.{CallParts}
 use Rattle.board.proofs.settling.Known.reaches_from.Given as goal
 
 abbrev pub invariant-loop-n : goal.invariant-loop-n

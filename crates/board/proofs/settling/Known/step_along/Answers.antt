@@ -1,7 +1,7 @@
 use Rattle.std.proofs.Common.{sym, ◌∙◌, arith}
 use Rattle.board.specs.Held.{held}
-use Rattle.board.proofs.Knowing.{ready_of}
-use Rattle.board.proofs.Winning.{no_along_more, along_place, no_same_event, no_line_read, along_none, along_wins}
+use Rattle.board.proofs.Least.Knowing.{ready_of}
+use Rattle.board.proofs.Least.Winning.{no_along_more, along_place, no_same_event, no_line_read, along_none, along_wins}
 use Rattle.board.proofs.settling.Known.step_along.Goals as goal
 use Rattle.board.proofs.settling.Known.step_along.Goals.{in-Some+then-line-r+in_default-step_from, in-Some+else-line-r, in_default}
 

@@ -1,5 +1,5 @@
 use Rattle.board.specs.Held.{held}
-use Rattle.board.proofs.Winning.{NoStepAlong}
+use Rattle.board.proofs.Least.Winning.{NoStepAlong}
 use Rattle.board.proofs.settling.Known.step_along.Given as goal
 
 abbrev pub invariant-loop-n : goal.invariant-loop-n

@@ -1,5 +1,5 @@
 use Rattle.std.proofs.Common.{sym, ◌∙◌}
-use Rattle.board.proofs.Standing.{leaves_on}
+use Rattle.board.proofs.Paths.Standing.{leaves_on}
 use Rattle.board.proofs.settling.Known.step_by.Goals as goal
 
 pub step_from-requires-clause-place : goal.step_from-requires-clause-place

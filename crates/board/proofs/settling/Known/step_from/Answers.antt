@@ -1,7 +1,7 @@
 use Rattle.std.proofs.Common.{rules, ℕ, None, get_or, sym, ap, ◌∙◌, arith}
-use Rattle.board.proofs.Knowing.{ready_of}
-use Rattle.board.proofs.Candidates.{same_place_eq}
-use Rattle.board.proofs.Winning.{same_false, start_in, from_start, no_front, no_arrival, no_quiet, no_end, no_cost, step_wins}
+use Rattle.board.proofs.Least.Knowing.{ready_of}
+use Rattle.board.proofs.Rounds.Candidates.{same_place_eq}
+use Rattle.board.proofs.Least.Winning.{same_false, start_in, from_start, no_front, no_arrival, no_quiet, no_end, no_cost, step_wins}
 use Rattle.board.proofs.settling.Known.step_from.Goals as goal
 
 pub at-requires : goal.at-requires

@@ -1,6 +1,6 @@
 use Rattle.std.proofs.Common.{rules, ℕ, ◌+◌, ◌*◌, None, get_or, sym, ap, ◌∙◌, arith}
-use Rattle.board.proofs.Knowing.{ready_of}
-use Rattle.board.proofs.Gathering.{gathered_push, tight_in, tight_none, tight_dear}
+use Rattle.board.proofs.Least.Knowing.{ready_of}
+use Rattle.board.proofs.Least.Gathering.{gathered_push, tight_in, tight_none, tight_dear}
 use Rattle.board.proofs.settling.Known.tight.Goals as goal
 use Rattle.board.proofs.settling.Known.tight.Goals.{in-Some+then-no_dearer, in-Some+else-no_dearer, in_default}
 

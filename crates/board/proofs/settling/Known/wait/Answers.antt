@@ -1,10 +1,10 @@
 use Rattle.std.proofs.Common.{rules, ap, not, ◌∙◌}
 use Rattle.std.proofs.lemmas.Bool.{both_ways}
 use Rattle.std.specs.Option.{is_some}
-use Rattle.board.proofs.Knowing.{ready_of}
-use Rattle.board.proofs.Lowering.{lowered_one, worst_or}
-use Rattle.board.proofs.Links.{candidate_cost_at, attained_cost_within}
-use Rattle.board.proofs.Awaiting.{not_some, places_kept, places_settled, places_lowered}
+use Rattle.board.proofs.Least.Knowing.{ready_of}
+use Rattle.board.proofs.Least.Lowering.{lowered_one, worst_or}
+use Rattle.board.proofs.Least.Links.{candidate_cost_at, attained_cost_within}
+use Rattle.board.proofs.Least.Awaiting.{not_some, places_kept, places_settled, places_lowered}
 use Rattle.board.proofs.settling.Known.wait.Goals as goal
 
 pub returns-then-is_none : goal.returns-then-is_none

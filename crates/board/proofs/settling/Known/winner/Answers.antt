@@ -1,5 +1,5 @@
 use Rattle.board.specs.Held.{held}
-use Rattle.board.proofs.Rounding.{step_wins_all, call_wins_all}
+use Rattle.board.proofs.Least.Rounding.{step_wins_all, call_wins_all}
 use Rattle.board.proofs.settling.Known.winner.Goals as goal
 
 pub returns-in-Some : goal.returns-in-Some

@@ -1,8 +1,8 @@
 use Rattle.std.proofs.Common.{◌≡◌, ℕ, ap, ◌∙◌, arith}
 use Rattle.board.specs.Held.{held}
 use Rattle.board.specs.Settling.{begin, starts, places, diagonal}
-use Rattle.board.specs.Logs.{records}
-use Rattle.board.proofs.Starting.{start_fresh}
+use Rattle.board.specs.Logged.{records}
+use Rattle.board.proofs.Rounds.Starting.{start_fresh}
 use Rattle.board.proofs.settling.Settling.begin.Goals as goal
 
 pub settle-requires-clause-fresh : goal.settle-requires-clause-fresh

@@ -1,7 +1,7 @@
 use Rattle.std.proofs.Common.{◌≡◌, ◌++◌}
 use Rattle.board.specs.Held.{held}
 use Rattle.board.specs.Settling.{starts, places, moments_of}
-use Rattle.board.specs.Logs.{records}
+use Rattle.board.specs.Logged.{records}
 use Rattle.board.specs.Minima.{State}
 use Rattle.board.proofs.settling.Settling.begin.Given as goal
 

@@ -1,11 +1,11 @@
 use Rattle.std.proofs.Common.{ap, ◌∙◌}
 use lib.ListN.{length-replicate}
 use Rattle.board.specs.Held.{held}
-use Rattle.board.specs.Logs.{records}
+use Rattle.board.specs.Logged.{records}
 use Rattle.board.specs.Minima.{Plain}
-use Rattle.board.proofs.Plain.{worst_attained}
-use Rattle.board.proofs.Starting.{empty_records}
-use Rattle.board.proofs.Stating.{empty_state}
+use Rattle.board.proofs.Least.Plain.{worst_attained}
+use Rattle.board.proofs.Rounds.Starting.{empty_records}
+use Rattle.board.proofs.Least.Stating.{empty_state}
 use Rattle.board.proofs.settling.Settling.empty.Goals as goal
 
 pub add_links-requires-clause-ok : goal.add_links-requires-clause-ok

@@ -1,6 +1,6 @@
 use Rattle.std.proofs.Common.{suc, get_or, refl}
 use Rattle.board.specs.Settling.{round}
-use Rattle.board.proofs.Rounding.{goal_on, goal_cost, goal_made, goal_fresh, goal_kept, round_is}
+use Rattle.board.proofs.Least.Rounding.{goal_on, goal_cost, goal_made, goal_fresh, goal_kept, round_is}
 use Rattle.board.proofs.settling.Settling.round.Goals as goal
 
 pub winner-source-requires-clause-on : goal.winner-source-requires-clause-on

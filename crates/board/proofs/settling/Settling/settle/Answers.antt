@@ -4,10 +4,10 @@ use Rattle.board.specs.Held.{held}
 use Rattle.board.specs.Logs.{numbered}
 use Rattle.board.specs.Lowering.{Lowered}
 use Rattle.board.specs.Minima.{CandidateAt, Followed}
-use Rattle.board.proofs.Numbers.{number_in}
-use Rattle.board.proofs.Links.{attained_cost_within}
-use Rattle.board.proofs.Pushing.{room_here}
-use Rattle.board.proofs.Stating.{extended, links_stay, waiting_stay, places_stay, linked_stays, state_more}
+use Rattle.board.proofs.Basics.Numbers.{number_in}
+use Rattle.board.proofs.Least.Links.{attained_cost_within}
+use Rattle.board.proofs.Rounds.Pushing.{room_here}
+use Rattle.board.proofs.Least.Stating.{extended, links_stay, waiting_stay, places_stay, linked_stays, state_more}
 use Rattle.board.proofs.settling.Settling.settle.Goals as goal
 
 pub push-requires-clause-room : goal.push-requires-clause-room

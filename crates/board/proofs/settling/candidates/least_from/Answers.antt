@@ -1,5 +1,5 @@
 use Rattle.std.proofs.Common.{ℕ, get_or, refl, sym, ap, ◌∙◌}
-use Rattle.board.proofs.Awaiting.{first_keep, first_take}
+use Rattle.board.proofs.Least.Awaiting.{first_keep, first_take}
 use Rattle.board.proofs.settling.candidates.least_from.Goals as goal
 use Rattle.board.proofs.settling.candidates.least_from.Goals.{then-not-no_dearer, else-not-no_dearer}
 

@@ -1,6 +1,6 @@
 use Rattle.std.proofs.Common.{◌≡◌}
 use Rattle.board.specs.Winning.{LeastFrom}
-use Rattle.board.proofs.Awaiting.{limit}
+use Rattle.board.proofs.Least.Awaiting.{limit}
 use Rattle.board.proofs.settling.candidates.least_from.Given as goal
 
 abbrev pub invariant-loop-s : goal.invariant-loop-s

@@ -1,5 +1,5 @@
 use Rattle.std.proofs.Common.{sym, ap, not, ◌∙◌}
-use Rattle.board.proofs.Awaiting.{not_some, none_below, pair_least}
+use Rattle.board.proofs.Least.Awaiting.{not_some, none_below, pair_least}
 use Rattle.board.proofs.settling.candidates.least_pair.Goals as goal
 
 pub returns-in_default : goal.returns-in_default

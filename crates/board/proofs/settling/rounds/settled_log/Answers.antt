@@ -1,4 +1,4 @@
-use Rattle.board.proofs.Rounding.{waiting_costs, none_left}
+use Rattle.board.proofs.Least.Rounding.{waiting_costs, none_left}
 use Rattle.board.proofs.settling.rounds.settled_log.Goals as goal
 
 pub least_pair-requires-clause-costs : goal.least_pair-requires-clause-costs

@@ -1,6 +1,7 @@
 use Rattle.std.proofs.Common.{◌-◌}
 use Rattle.board.specs.Held.{held}
-use Rattle.board.specs.Logs.{Reached, records}
+use Rattle.board.specs.Logs.{Reached}
+use Rattle.board.specs.Logged.{records}
 use Rattle.board.specs.Minima.{State}
 use Rattle.board.proofs.settling.rounds.settled_log.Given as goal
 

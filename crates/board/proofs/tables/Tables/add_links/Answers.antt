@@ -1,8 +1,8 @@
 use Rattle.std.proofs.Common.{length, arith}
 use Rattle.board.specs.Held.{held}
 use Rattle.board.specs.Minima.{PlainlyBy}
-use Rattle.board.proofs.Lowering.{lowered_start, lowered_more, lowered_for, among_all}
-use Rattle.board.proofs.Plain.{plain_cost, by_fits, by_rows}
+use Rattle.board.proofs.Least.Lowering.{lowered_start, lowered_more, lowered_for, among_all}
+use Rattle.board.proofs.Least.Plain.{plain_cost, by_fits, by_rows}
 use Rattle.board.proofs.tables.Tables.add_links.Goals as goal
 
 pub loop-row-init : goal.loop-row-init

@@ -1,5 +1,5 @@
 use Rattle.std.proofs.Common.{rules, sym, ◌∙◌}
-use Rattle.board.proofs.Leads.{stands_self, stands_more}
+use Rattle.board.proofs.Least.Leads.{stands_self, stands_more}
 use Rattle.board.proofs.tables.Tables.cheapest_like.Goals as goal
 use Rattle.board.proofs.tables.Tables.cheapest_like.Goals.{in-Some+then-sort_like+then-no_dearer, in-Some+else-sort_like, in_default}
 

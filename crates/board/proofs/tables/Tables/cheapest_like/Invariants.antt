@@ -1,5 +1,5 @@
 use Rattle.board.specs.Held.{held}
-use Rattle.board.proofs.Leads.{Stands}
+use Rattle.board.proofs.Least.Leads.{Stands}
 use Rattle.board.proofs.tables.Tables.cheapest_like.Given as goal
 
 abbrev pub invariant-loop-i : goal.invariant-loop-i

@@ -1,7 +1,7 @@
 use Rattle.std.proofs.Common.{arith}
 use Rattle.std.proofs.lemmas.Grind.{common_steps}
-use Rattle.board.proofs.Accepting.{answer_accepts}
-use Rattle.board.proofs.Faulting.{answer_refuses}
+use Rattle.board.proofs.Checking.Accepting.{answer_accepts}
+use Rattle.board.proofs.Checking.Faulting.{answer_refuses}
 use Rattle.board.proofs.tables.Tables.check.Goals as goal
 
 pub returns-in_err-map_err-clause-readings : goal.returns-in_err-map_err-clause-readings

@@ -1,5 +1,5 @@
 use Rattle.board.specs.Held.{held}
-use Rattle.board.proofs.Keeps.{clear_keeps}
+use Rattle.board.proofs.Contents.Keeps.{clear_keeps}
 use Rattle.board.proofs.tables.Tables.clear_lines.Goals as goal
 
 pub invariant_of-self : goal.invariant_of-self

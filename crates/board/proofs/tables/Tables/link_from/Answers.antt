@@ -1,7 +1,7 @@
 use Rattle.std.proofs.Common.{sym, ap, ◌∙◌, arith}
 use Rattle.board.specs.declared.moves.Arrival.{Arrival}
-use Rattle.board.proofs.Membership.{some_eq, none_some}
-use Rattle.board.proofs.Plain.{from_here, from_one, from_none}
+use Rattle.board.proofs.Basics.Membership.{some_eq, none_some}
+use Rattle.board.proofs.Least.Plain.{from_here, from_one, from_none}
 use Rattle.board.proofs.tables.Tables.link_from.Goals as goal
 
 pub lower-requires : goal.lower-requires

@@ -1,9 +1,9 @@
 use Rattle.std.proofs.Common.{length, arith, sym, ◌∙◌}
 use Rattle.board.specs.Held.{held}
 use Rattle.board.specs.Minima.{PlainlyAt, PlainlyAlong}
-use Rattle.board.proofs.Membership.{none_some}
-use Rattle.board.proofs.Lowering.{lowered_start, lowered_then, lowered_more, among_all}
-use Rattle.board.proofs.Plain.{plain_cost, by_no_row, at_fits, along_fits, along_one, along_none, by_split}
+use Rattle.board.proofs.Basics.Membership.{none_some}
+use Rattle.board.proofs.Least.Lowering.{lowered_start, lowered_then, lowered_more, among_all}
+use Rattle.board.proofs.Least.Plain.{plain_cost, by_no_row, at_fits, along_fits, along_one, along_none, by_split}
 use Rattle.board.proofs.tables.Tables.links_by.Goals as goal
 use Rattle.board.proofs.tables.Tables.links_by.Goals.{in-Some-line, in_default-line}
 

@@ -1,5 +1,5 @@
 use Rattle.std.proofs.Common.{sym, ◌∙◌, arith, length-set}
-use Rattle.board.proofs.Leads.{led_some, led_none, led_all, stands_within}
+use Rattle.board.proofs.Least.Leads.{led_some, led_none, led_all, stands_within}
 use Rattle.board.proofs.tables.Tables.mark_leads.Goals as goal
 use Rattle.board.proofs.tables.Tables.mark_leads.Goals.{in-Some, in_default}
 

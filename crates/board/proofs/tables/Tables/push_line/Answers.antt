@@ -1,5 +1,5 @@
 use Rattle.board.specs.Held.{held}
-use Rattle.board.proofs.Keeps.{with_line_sound}
+use Rattle.board.proofs.Contents.Keeps.{with_line_sound}
 use Rattle.board.proofs.tables.Tables.push_line.Goals as goal
 
 pub invariant_of-self : goal.invariant_of-self

@@ -1,5 +1,5 @@
 use Rattle.board.specs.Held.{held}
-use Rattle.board.proofs.Keeps.{with_row_sound}
+use Rattle.board.proofs.Contents.Keeps.{with_row_sound}
 use Rattle.board.proofs.tables.Tables.push_row.Goals as goal
 
 pub invariant_of-self : goal.invariant_of-self

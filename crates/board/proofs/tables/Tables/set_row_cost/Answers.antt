@@ -3,8 +3,8 @@ use Rattle.board.specs.declared.row.Row.{Row}
 use Rattle.board.specs.Calls.{row_at_cost}
 use Rattle.board.specs.Content.{content}
 use Rattle.board.specs.Held.{held}
-use Rattle.board.proofs.Elements.{changed_set, nth_other}
-use Rattle.board.proofs.Keeps.{with_row_cost_sound}
+use Rattle.board.proofs.Basics.Elements.{changed_set, nth_other}
+use Rattle.board.proofs.Contents.Keeps.{with_row_cost_sound}
 use Rattle.board.proofs.tables.Tables.set_row_cost.Goals as goal
 
 pub invariant_of-self : goal.invariant_of-self

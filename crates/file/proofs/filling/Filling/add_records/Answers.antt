@@ -1,8 +1,9 @@
 use Rattle.std.proofs.Common.{◌≡◌, ◌+◌, ◌-◌, drop, Ok, Err, sym, ◌∙◌, arith, rules}
 use Rattle.std.proofs.lemmas.Result.{err_from_is_err_and}
 use Rattle.board.specs.Held.{draft_content}
-use Rattle.file.specs.Records.{at_place, told, record_added, record_next}
-use Rattle.file.proofs.Steps.{records_none, records_refused, records_more}
+use Rattle.file.specs.Records.{at_place, record_added, record_next}
+use Rattle.file.specs.Fillings.{told}
+use Rattle.file.proofs.Loads.Steps.{records_none, records_refused, records_more}
 use Rattle.file.proofs.filling.Filling.add_records.Goals as goal
 
 pub returns-in_err-map_err-clause-after : goal.returns-in_err-map_err-clause-after

@@ -1,9 +1,10 @@
 use Rattle.std.proofs.Common.{◌≡◌, length, Some, None, Ok, sym, ap, ◌∙◌, rules}
 use Rattle.std.proofs.lemmas.Result.{err_from_is_err_and}
-use Rattle.file.specs.Sections.{Reading, reading, found_section, next_answer, next_after}
+use Rattle.file.specs.Readers.{Reading, reading, found_section, next_answer, next_after}
 use Rattle.file.specs.Records.{go_on}
-use Rattle.file.specs.Load.{so_far, section_added, from_stage}
-use Rattle.file.proofs.Turns.{came, came_less, reader_end, reader_refused, reader_more}
+use Rattle.file.specs.Load.{section_added}
+use Rattle.file.specs.Fillings.{so_far, from_stage}
+use Rattle.file.proofs.Loads.Turns.{came, came_less, reader_end, reader_refused, reader_more}
 use Rattle.file.proofs.filling.Filling.add_sections.Given as given
 use Rattle.file.proofs.filling.Filling.add_sections.Goals as goal
 use Rattle.file.proofs.filling.Filling.add_sections.Goals.{In-Some}

@@ -1,7 +1,7 @@
 -- What is left gives what the whole does.
 use Rattle.std.proofs.Common.{◌≡◌, length}
-use Rattle.file.specs.Sections.{reading}
-use Rattle.file.specs.Load.{so_far, from_stage}
+use Rattle.file.specs.Readers.{reading}
+use Rattle.file.specs.Fillings.{so_far, from_stage}
 use Rattle.file.proofs.filling.Filling.add_sections.Given as goal
 
 abbrev pub invariant-loop-section : goal.invariant-loop-section

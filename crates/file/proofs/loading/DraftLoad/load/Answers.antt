@@ -4,9 +4,9 @@ use Rattle.file.specs.Records.{row_added, line_added, records}
 use Rattle.file.specs.Load.{at_end, from_note, from_lines, from_rows, sized, load_answer, load_after}
 use Rattle.file.specs.Parts.{answered}
 use Rattle.file.specs.Examples.{LayoutExamples}
-use Rattle.file.proofs.Exactly.{exactly}
-use Rattle.file.proofs.Declining.{declines_exactly}
-use Rattle.file.proofs.Longest.{no_longer}
+use Rattle.file.proofs.Loads.Exactly.{exactly}
+use Rattle.file.proofs.Faults.Declining.{declines_exactly}
+use Rattle.file.proofs.Loads.Longest.{no_longer}
 use Rattle.file.proofs.loading.DraftLoad.load.Goals as goal
 
 worked : LayoutExamples

@@ -1,0 +1,136 @@
+-- What the answers of a settled board mean.
+use Rattle.std.proofs.Common.{◌≡◌, ℕ, ◌+◌, ◌*◌, ◌/◌, ◌%◌, ◌<◌, Bool, true, false, cond, ◌||◌, leb, ◌⊎◌, List, ◌++◌, map, length, drop, Some, None, Ok, Err, Option, Result, sym, refl, ap, subst, subst₂, ◌∙◌, inl, inr, ⊎_elim, mod-lt, mul_comm, div-lt_iff_lt-mul, arith}
+use native.Mathlib.Nat.{div-add-mod}
+use Rattle.std.proofs.lemmas.Bool.{and_cases, or_cases, or_parts, and_parts, leb-true, leb-false}
+use Rattle.costs.specs.declared.kind.Kind.{Ghosts}
+use Rattle.costs.specs.Meaning.{Meaning, Lawful, NoDearer}
+use Rattle.board.specs.declared.moves.Move.{Move}
+use Rattle.board.specs.declared.refusal.Refusal.{Refusal}
+use Rattle.board.specs.declared.settled.Settled.{Settled as SettledBoard}
+use Rattle.board.specs.Boards.{settled_content, settled_records}
+use Rattle.board.proofs.Questions.Holding.{settled_of}
+use Rattle.board.specs.declared.refusal.Refusal.TheVariants.{TooLong, PlaceOut}
+use Rattle.board.specs.Content.{Content, Sound}
+use Rattle.board.specs.Moves.{Place, On, place_number}
+use Rattle.board.specs.Paths.{BalancedPath}
+use Rattle.board.specs.Packing.{packed}
+use Rattle.board.specs.Settling.{Record, Settled}
+use Rattle.board.specs.Computing.{record_between, ReadingFound, found}
+use Rattle.board.specs.Promises.{Cheapest}
+use Rattle.board.specs.Questions.{recorded_cost, between_answer, cost_told, cost_answer, fits, path_told, path_written, path_answer, path_after}
+use Rattle.board.specs.Meanings.{CostMeans, PathMeans, Pair, BetweenMeans}
+use Rattle.board.proofs.Basics.Membership.{none_some}
+use Rattle.board.proofs.Questions.Finding.{joins_parts, between_some, between_is, found_recorded, found_none}
+use Rattle.board.proofs.Basics.Numbers.{place_below}
+use Rattle.board.proofs.Promised.{settling_promises}
+
+module _ {m : Meaning} {c : Content} (laws : Lawful m) (sound : Sound m c) {log : List Record} (d : Settled m c log) where
+  promised : Cheapest m c log
+  promised = (settling_promises m c laws sound).1 log d
+
+  -- cost
+  cost_by : (o : Option ReadingFound) → found m c log ≡ o → CostMeans m c log (cost_told o)
+  cost_by None e = (refl, promised.none.0 (found_none laws sound d.reached e))
+  cost_by (Some f) e =
+      let r = found_recorded laws sound d.reached f e in
+      record {
+        reading = f.moves;
+        recorded = r;
+        complete = promised.complete _ _ r;
+        below = r.below;
+        number = refl;
+        cheapest = λ other x h. promised.cheapest _ x _ other r h;
+      }
+
+  cost_means : CostMeans m c log (cost_answer m c log)
+  cost_means = cost_by _ refl
+
+  -- path
+  longer : (f : ReadingFound) (buffer : List ℕ) → fits f buffer ≡ false → (length buffer < length f.moves) ⊎ (65535 < length f.moves)
+  longer f buffer e = ⊎_elim (λ h. inl (leb-false _ _ h)) (λ h. inr (leb-false _ _ h)) (and_cases _ _ e)
+
+  path_fits : (f : ReadingFound) (buffer : List ℕ) → found m c log ≡ Some f → (t : Bool) → fits f buffer ≡ t → PathMeans m c log buffer (cond t (Ok (length f.moves)) (Err TooLong)) (cond t (map packed f.moves ++ drop (length f.moves) buffer) buffer)
+  path_fits f buffer e true h =
+      let r = found_recorded laws sound d.reached f e in
+      let z = and_parts _ _ h in
+      record {
+        cost = f.cost;
+        reading = f.moves;
+        recorded = r;
+        complete = promised.complete _ _ r;
+        cheapest = λ other x k. promised.cheapest _ x _ other r k;
+        room = leb-true _ _ z.0;
+        few = leb-true _ _ z.1;
+        number = refl;
+        written = refl;
+        checked = promised.checked _ _ r;
+      }
+  path_fits f buffer e false h = (inr (refl, record { cost = f.cost; reading = f.moves; recorded = found_recorded laws sound d.reached f e; longer = longer f buffer h }), refl)
+
+  path_by : (o : Option ReadingFound) (buffer : List ℕ) → found m c log ≡ o → PathMeans m c log buffer (path_told o buffer) (path_written o buffer)
+  path_by None buffer e = (inl (refl, promised.none.0 (found_none laws sound d.reached e)), refl)
+  path_by (Some f) buffer e = path_fits f buffer e (fits f buffer) refl
+
+  path_means : (buffer : List ℕ) → PathMeans m c log buffer (path_answer m c log buffer) (path_after m c log buffer)
+  path_means buffer = path_by _ buffer refl
+
+  -- between
+  some_between : (s q : ℕ) (a : Record) → record_between c log s q ≡ Some a → BetweenMeans m c s q (Ok a.cost)
+  some_between s q a e =
+      let h = between_some c log s q a e in
+      let n = joins_parts c a s q h.1 in
+      let on = promised.placed a h.0 in
+      record { pair = record { first = a.from; second = a.to; first_on = on.0; second_on = on.1; first_number = n.0; second_number = n.1 }; least = promised.least a h.0; below = promised.below a h.0 }
+
+  none_joins : (s q : ℕ) → record_between c log s q ≡ None → (p : Pair c s q) (vs : List Move) (k : ℕ) → BalancedPath m c vs p.first p.second k → NoDearer m m.worst k
+  none_joins s q e p vs k path = by (m.no_dearer m.worst k) refl
+    where
+      by : (t : Bool) → m.no_dearer m.worst k ≡ t → NoDearer m m.worst k
+      by true f = f
+      by false f =
+          let w = promised.minimal vs p.first p.second k p.first_on path f in
+          absurd (none_some _ _ e (between_is laws sound d.reached w.held s q w.logged (ap (place_number c) w.leaves ∙ p.first_number) (ap (place_number c) w.enters ∙ p.second_number)))
+
+  -- the place of a number
+  place_of : (n : ℕ) → n < c.modes * c.moments → (p : Place) × On c p × (place_number c p ≡ n)
+  place_of n h = (
+    (n / c.moments, n % c.moments),
+    ((div-lt_iff_lt-mul sound.some_moment).1 h, mod-lt n sound.some_moment),
+    ap (λ x. x + n % c.moments) (mul_comm (n / c.moments) c.moments) ∙ div-add-mod n c.moments,
+  )
+
+  no_pair : (s q : ℕ) → (leb (c.modes * c.moments) s || leb (c.modes * c.moments) q) ≡ true → Pair c s q → ⊥
+  no_pair s q e p =
+      let a = place_below c p.first p.first_on in
+      let b = place_below c p.second p.second_on in
+      ⊎_elim (λ h. let k = leb-true (c.modes * c.moments) s h in omega (arith, p.first_number)) (λ h. let k = leb-true (c.modes * c.moments) q h in omega (arith, p.second_number)) (or_cases _ _ e)
+
+  -- numbers below the number of places stand for places
+  the_pair : (s q : ℕ) → (leb (c.modes * c.moments) s || leb (c.modes * c.moments) q) ≡ false → Pair c s q
+  the_pair s q e =
+      let z = or_parts _ _ e in
+      let a = place_of s (leb-false _ _ z.0) in
+      let b = place_of q (leb-false _ _ z.1) in
+      record { first = a.0; second = b.0; first_on = a.1; second_on = b.1; first_number = a.2; second_number = b.2 }
+
+  record_by : (s q : ℕ) (o : Option Record) → Pair c s q → record_between c log s q ≡ o → BetweenMeans m c s q (recorded_cost o)
+  record_by s q None p e = inr (refl, record { pair = p; none = none_joins s q e p })
+  record_by s q (Some a) p e = some_between s q a e
+
+  between_by : (s q : ℕ) (t : Bool) → (leb (c.modes * c.moments) s || leb (c.modes * c.moments) q) ≡ t → BetweenMeans m c s q (cond t (Err PlaceOut) (recorded_cost (record_between c log s q)))
+  between_by s q true e = inl (refl, no_pair s q e)
+  between_by s q false e = record_by s q _ (the_pair s q e) refl
+
+  between_means : (s q : ℕ) → BetweenMeans m c s q (between_answer c log s q)
+  between_means s q = between_by s q _ refl
+
+-- what a settled board answers, and its meaning
+module _ {K : Type 0} {k : Ghosts K} (laws : Lawful k.meaning) (s : SettledBoard K k) where
+  pub cost_tells : (r : Result (ℕ × ℕ) Refusal) → r ≡ cost_answer k.meaning (settled_content s) (settled_records s) → CostMeans k.meaning (settled_content s) (settled_records s) r
+  cost_tells r e = subst (CostMeans k.meaning (settled_content s) (settled_records s)) (sym e) (cost_means laws s.tables.sound (settled_of laws s))
+
+  pub path_tells : (b b' : List ℕ) (r : Result ℕ Refusal) → r ≡ path_answer k.meaning (settled_content s) (settled_records s) b → b' ≡ path_after k.meaning (settled_content s) (settled_records s) b → PathMeans k.meaning (settled_content s) (settled_records s) b r b'
+  path_tells b b' r e f = subst₂ (PathMeans k.meaning (settled_content s) (settled_records s) b) (sym e) (sym f) (path_means laws s.tables.sound (settled_of laws s) b)
+
+  pub between_tells : (from to : ℕ) (r : Result ℕ Refusal) → r ≡ between_answer (settled_content s) (settled_records s) from to → BetweenMeans k.meaning (settled_content s) from to r
+  between_tells from to r e = subst (BetweenMeans k.meaning (settled_content s) from to) (sym e) (between_means laws s.tables.sound (settled_of laws s) from to)
