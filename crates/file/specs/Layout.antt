@@ -1,6 +1,6 @@
 -- The layout of a file: what a file describes, how that is written in bytes, and the limits that it keeps.
 use Rattle.std.specs.Prelude.{◌≡◌, ℕ, zero, suc, ◌+◌, ◌-◌, ◌*◌, ◌/◌, ◌%◌, ◌^◌, ◌<◌, ◌≤◌, true, false, ◌↔◌, List, [], ◌∷◌, ◌++◌, map, length, Some, None, Ok, Option, Result}
-use Rattle.std.specs.List.{AllByRecursion}
+use Rattle.std.specs.List.{flat_map, AllByRecursion}
 use Rattle.costs.specs.Meaning.{Meaning, Cost}
 use Rattle.board.specs.declared.row.Row.{Row}
 use Rattle.board.specs.declared.row.Line.{Line}
@@ -68,15 +68,10 @@ line_bytes l = in_bytes 8 (line_word l)
 abbrev pub one_byte : ℕ → List ℕ
 one_byte b = b ∷ []
 
--- one after the other
-abbrev pub each_written : {A : Type 0} → (A → List ℕ) → List A → List ℕ
-each_written f [] = []
-each_written f (x ∷ xs) = f x ++ each_written f xs
-
--- a section: its head, with its code and its count, and what it holds; an absent one has no head
+-- a section: its head, with its code and its count, and what it holds, one after the other; an absent one has no head
 abbrev pub section_written : {A : Type 0} → ℕ → (A → List ℕ) → Option (List A) → List ℕ
 section_written code f None = []
-section_written code f (Some xs) = in_bytes 2 (head_word code (length xs)) ++ each_written f xs
+section_written code f (Some xs) = in_bytes 2 (head_word code (length xs)) ++ flat_map f xs
 
 -- the sections in their order
 abbrev pub sections_written : Option (List Row) → Option (List Line) → Option (List ℕ) → List ℕ

@@ -5,5 +5,4 @@ ghost use Rattle.file.specs.Laws.{FirstBytesTell};
 // call.
 pub fn file_theorems()
     ensures { FirstBytesTell }
-{
-}
+{}

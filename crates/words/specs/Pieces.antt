@@ -1,5 +1,6 @@
 -- Cutting bytes at separators.
 use Rattle.std.specs.Prelude.{◌≡◌, ℕ, Bool, true, false, cond, ◌||◌, List, [], ◌∷◌, ◌++◌, ◌==◌}
+use Rattle.std.specs.List.{AllByRecursion}
 
 -- a space or a tab
 abbrev pub spacing : ℕ → Bool
@@ -24,8 +25,7 @@ pieces_of sep bs = pieces_after sep [] bs
 
 -- no byte is a separator
 abbrev pub NoSeparator : (ℕ → Bool) → List ℕ → Type 0
-NoSeparator sep [] = Unit {0}
-NoSeparator sep (b ∷ bs) = (sep b ≡ false) × NoSeparator sep bs
+NoSeparator sep bs = AllByRecursion (λ b. sep b ≡ false) bs
 
 -- The three laws that fix the pieces.
 pub record CuttingLaws (sep : ℕ → Bool) : Type 0 where

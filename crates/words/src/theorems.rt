@@ -6,5 +6,4 @@ ghost use Rattle.words.specs.Laws.{WordLaws};
 #[tactic(auto, using(crate::proofs::AllLaws::word_laws))]
 pub fn word_theorems()
     ensures { WordLaws }
-{
-}
+{}
