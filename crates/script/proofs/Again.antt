@@ -1,15 +1,16 @@
 -- A line that says a call has no '>', so the call is said again where an answer stands behind it.
 use Rattle.std.proofs.Common.{◌≡◌, ℕ, Bool, true, false, cond, List, [], ◌∷◌, ◌++◌, Some, None, codes, Option, sym, refl, ap, ◌∙◌, subst, ⊎_elim, arith}
-use Rattle.std.specs.List.{AllByRecursion}
+use Rattle.std.specs.List.{filter, onto_first, AllByRecursion}
 use Rattle.std.specs.Option.{option_map}
 use Rattle.std.proofs.lemmas.Option.{cond_some, option_and_then_some}
-use Rattle.std.proofs.lemmas.Bool.{cases_Bool, eqb-true, cond-true, cond-false, and_parts}
+use Rattle.std.proofs.lemmas.Bool.{cases_Bool, eqb-true, cond-false, and_parts}
 use Rattle.std.proofs.lemmas.Bool.Decides.{nat_tests}
+use Rattle.std.proofs.lemmas.List.Splits.{slice_split-cons_yes, slice_split-cons_no}
 use Rattle.std.proofs.lemmas.Slice.Eq.{bytes_eq-Decides}
 use Rattle.costs.specs.Names.{named_by}
 use Rattle.words.specs.Hex.{hex_value, then_digit, byte_before, bytes_of, hex_on, hex_number_of}
 use Rattle.words.specs.Numbers.{all_digits, is_number, number_of, number_before, numbers_of}
-use Rattle.words.specs.Pieces.{spacing, ended, pieces_after, pieces_of, NoSeparator}
+use Rattle.words.specs.Pieces.{spacing, has_byte, pieces_of, NoSeparator}
 use Rattle.words.specs.Splits.{split_of}
 use Rattle.words.specs.Laws.{WordLaws}
 use Rattle.script.specs.Calls.{Call, kind}
@@ -31,27 +32,21 @@ abbrev AllFree : List (List ℕ) → Type 0
 AllFree ws = AllByRecursion Free ws
 
 -- a line is free where its words are
-ended_free : (run : List ℕ) (ps : List (List ℕ)) → AllFree (ended run ps) → Free run × AllFree ps
-ended_free [] ps all = (tt, all)
-ended_free (b ∷ run) ps all = (all.0, all.1)
+first_free : (x : ℕ) (parts : List (List ℕ)) → AllFree (filter has_byte (onto_first x parts)) → (point x ≡ false) × AllFree (filter has_byte parts)
+first_free x [] all = (all.0.0, tt)
+first_free x ([] ∷ parts) all = (all.0.0, all.1)
+first_free x ((b ∷ part) ∷ parts) all = (all.0.0, (all.0.1, all.1))
 
 spacing_free : (b : ℕ) → spacing b ≡ true → point b ≡ false
 spacing_free b s = grind (arith, nat_tests)
 
-parts_free : (xs ys : List ℕ) → Free (xs ++ ys) → Free xs × Free ys
-parts_free [] ys free = (tt, free)
-parts_free (x ∷ xs) ys free = let p = parts_free xs ys free.1 in ((free.0, p.0), p.1)
-
-pieces_free : (run bs : List ℕ) → AllFree (pieces_after spacing run bs) → Free run × Free bs
-pieces_free run [] all = ((ended_free run [] all).0, tt)
-pieces_free run (b ∷ bs) all = ⊎_elim
-    (λ (s : spacing b ≡ true).
-    let e = ended_free run _ (subst AllFree (cond-true _ _ _ s) all) in
-    (e.0, (spacing_free b s, (pieces_free [] bs e.1).1)))
+pieces_free : (bs : List ℕ) → AllFree (pieces_of spacing bs) → Free bs
+pieces_free [] all = tt
+pieces_free (b ∷ bs) all = ⊎_elim
+    (λ (s : spacing b ≡ true). (spacing_free b s, pieces_free bs (subst (λ ps. AllFree (filter has_byte ps)) (slice_split-cons_yes spacing b bs s) all)))
     (λ (n : spacing b ≡ false).
-    let p = pieces_free (run ++ (b ∷ [])) bs (subst AllFree (cond-false _ _ _ n) all) in
-    let q = parts_free run (b ∷ []) p.0 in
-    (q.0, (q.1.0, p.1)))
+    let p = first_free b _ (subst (λ ps. AllFree (filter has_byte ps)) (slice_split-cons_no spacing b bs n) all) in
+    (p.0, pieces_free bs p.1))
     (cases_Bool (spacing b))
 
 -- decimal numbers
@@ -247,4 +242,4 @@ words_free laws (w ∷ ws) c e = first_words laws w ws c (is_comment w) e
 pub said_again : WordLaws → (line answer : List ℕ) (c : Call) → line_parsed line ≡ call c → line_parsed (script_part_of line ++ (codes " -> " ++ answer)) ≡ call c
 said_again laws line answer c e =
     let part = script_part_of line in
-    line_answered laws part answer (pieces_free [] part (words_free laws (pieces_of spacing part) c e)).1 ∙ e
+    line_answered laws part answer (pieces_free part (words_free laws (pieces_of spacing part) c e)) ∙ e
