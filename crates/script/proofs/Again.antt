@@ -1,14 +1,18 @@
 -- A line that says a call has no '>', so the call is said again where an answer stands behind it.
-use Rattle.std.proofs.Common.{◌≡◌, ℕ, Bool, true, false, cond, List, [], ◌∷◌, ◌++◌, Some, None, codes, Option, sym, refl, ap, ◌∙◌, subst, ⊎_elim, arith}
+use Rattle.std.proofs.Common.{◌≡◌, ℕ, Bool, true, false, cond, List, [], ◌∷◌, ◌++◌, get_or, Some, None, Ok, Err, codes, Option, Result, sym, refl, ap, ◌∙◌, subst, ⊎_elim, arith}
 use Rattle.std.specs.List.{filter, onto_first, AllByRecursion}
 use Rattle.std.specs.Option.{option_map}
 use Rattle.std.proofs.lemmas.Option.{cond_some, option_and_then_some}
 use Rattle.std.proofs.lemmas.Bool.{cases_Bool, eqb-true, cond-false, and_parts}
 use Rattle.std.proofs.lemmas.Bool.Decides.{nat_tests}
+use Rattle.std.specs.Result.{result_ok}
+use Rattle.std.proofs.lemmas.List.Elements.{recursion_from_All}
 use Rattle.std.proofs.lemmas.List.Splits.{slice_split-cons_yes, slice_split-cons_no}
 use Rattle.std.proofs.lemmas.Slice.Eq.{bytes_eq-Decides}
 use Rattle.costs.specs.Names.{named_by}
-use Rattle.words.specs.Hex.{hex_value, then_digit, byte_before, bytes_of, hex_on, hex_number_of}
+use Rattle.hex.specs.Hex.{hex_digit_value, is_hex_digit, decode_of}
+use Rattle.hex.proofs.HexLemmas.{decode_of-ok}
+use Rattle.words.specs.Hex.{then_digit, bytes_of, hex_on, hex_number_of}
 use Rattle.words.specs.Numbers.{all_digits, is_number, number_of, number_before, numbers_of}
 use Rattle.words.specs.Pieces.{spacing, has_byte, pieces_of, NoSeparator}
 use Rattle.words.specs.Splits.{split_of}
@@ -75,8 +79,8 @@ read_free read b y none some = ⊎_elim
     (cases_Bool (point b))
 
 -- hexadecimal numbers
-hex_free : (b v : ℕ) → hex_value b ≡ Some v → point b ≡ false
-hex_free b v e = read_free hex_value b v refl e
+hex_free : (b v : ℕ) → hex_digit_value b ≡ Some v → point b ≡ false
+hex_free b v e = read_free hex_digit_value b v refl e
 
 then_some : (o d : Option ℕ) (n : ℕ) → then_digit o d ≡ Some n → (k : ℕ) × (o ≡ Some k) × (v : ℕ) × (d ≡ Some v)
 then_some None d n e = absurd cc
@@ -86,8 +90,8 @@ then_some (Some k) (Some v) n e = (k, refl, v, refl)
 hex_on_free : (o : Option ℕ) (w : List ℕ) (n : ℕ) → hex_on o w ≡ Some n → Free w × ((k : ℕ) × (o ≡ Some k))
 hex_on_free o [] n e = (tt, (n, e))
 hex_on_free o (b ∷ w) n e =
-    let r = hex_on_free (then_digit o (hex_value b)) w n e in
-    let s = then_some o (hex_value b) r.1.0 r.1.1 in
+    let r = hex_on_free (then_digit o (hex_digit_value b)) w n e in
+    let s = then_some o (hex_digit_value b) r.1.0 r.1.1 in
     ((hex_free b s.2 s.3, r.0), (s.0, s.1))
 
 hex_number_free : (w : List ℕ) (n : ℕ) → hex_number_of w ≡ Some n → Free w
@@ -98,18 +102,17 @@ hex_number_free w n e = (hex_on_free (Some 0) w n (on _ _ e)).0
     on true o h = h
     on false o h = absurd cc
 
-byte_some : (o : Option ℕ) (p : Option (List ℕ)) (bs : List ℕ) → byte_before o p ≡ Some bs → (b : ℕ) × (o ≡ Some b) × (cs : List ℕ) × (p ≡ Some cs)
-byte_some None p bs e = absurd cc
-byte_some (Some b) None bs e = absurd cc
-byte_some (Some b) (Some cs) bs e = (b, refl, cs, refl)
+decoded : {E : Type 0} (r : Result (List ℕ) E) (bs : List ℕ) → result_ok r ≡ Some bs → r ≡ Ok bs
+decoded (Ok x) bs e = cc
+decoded (Err x) bs e = absurd cc
+
+digit_free : (b : ℕ) → is_hex_digit b ≡ true → point b ≡ false
+digit_free b e = grind (arith, nat_tests)
 
 bytes_free : (w bs : List ℕ) → bytes_of w ≡ Some bs → Free w
-bytes_free [] bs e = tt
-bytes_free (a ∷ []) bs e = absurd cc
-bytes_free (a ∷ b ∷ w) bs e =
-    let p = byte_some _ _ bs e in
-    let s = then_some (hex_value a) (hex_value b) p.0 p.1 in
-    (hex_free a s.0 s.1, (hex_free b s.2 s.3, bytes_free w p.2 p.3))
+bytes_free w bs e =
+    let digits = (decode_of-ok w bs (decoded (decode_of w) bs e)).1 in
+    recursion_from_All (λ b. point b ≡ false) w (λ k d within. digit_free (get_or w k d) (digits k d within))
 
 -- the words of check
 run_some : (o p : Option ℕ) (r : Run) → run_from o p ≡ Some r → (n : ℕ) × (o ≡ Some n) × (k : ℕ) × (p ≡ Some k)

@@ -5,7 +5,7 @@ use Rattle.costs.specs.Names.{letter_of}
 use Rattle.board.specs.declared.row.Row.{Row}
 use Rattle.board.specs.declared.row.Line.{Line}
 use Rattle.board.specs.Rows.{kind_number}
-use Rattle.words.specs.Hex.{written_byte, written_u16}
+use Rattle.words.specs.Hex.{written_bytes, written_u16}
 use Rattle.script.specs.Calls.{Call, kind, size, row, line, reprice_row, reprice_line, clear, load, settle, reopen, cost, path, between, check}
 use Rattle.script.specs.Forms.{longest, two_wide, row_limits, line_limits}
 use Rattle.script.specs.Script.{call, script_part_of, line_parsed}
@@ -17,7 +17,7 @@ spaced ws = flat_map (λ w. 32 ∷ w) ws
 -- the word of a file's bytes, where there are some
 abbrev pub file_words : List ℕ → List (List ℕ)
 file_words [] = []
-file_words (b ∷ bs) = flat_map written_byte (b ∷ bs) ∷ []
+file_words (b ∷ bs) = written_bytes (b ∷ bs) ∷ []
 
 -- the numbers of a row and of a line, in their order
 abbrev pub row_numbers : Row → List ℕ
