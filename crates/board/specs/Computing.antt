@@ -1,5 +1,6 @@
 -- Settling as functions, with which cases are computed: the candidates of a log, the rounds, and the recorded reading.
-use Rattle.std.specs.Prelude.{ℕ, zero, suc, ◌*◌, Bool, true, false, cond, not, ◌&&◌, List, [], ◌∷◌, ◌++◌, length, Some, None, Option, ◌==◌, nat_lt}
+use Rattle.std.specs.Prelude.{ℕ, zero, suc, ◌*◌, Bool, true, false, cond, not, ◌&&◌, List, [], ◌∷◌, ◌++◌, map, length, Some, None, Option, ◌==◌, nat_lt}
+use Rattle.std.specs.List.{filter, list_all, find, flat_map, fold}
 use Rattle.costs.specs.Meaning.{Meaning}
 use Rattle.board.specs.declared.row.Row.{Row}
 use Rattle.board.specs.declared.moves.Move.{Move}
@@ -11,11 +12,6 @@ use Rattle.board.specs.Moves.{Place, mode, moment, place_number, is_end, move_ro
 use Rattle.board.specs.Arrivals.{arrival_on}
 use Rattle.board.specs.Settling.{Record, bare, step_record, call_record, diagonal, key}
 
--- what f gives for each, in one list
-abbrev pub each : {A B : Type 0} → (A → List B) → List A → List B
-each f [] = []
-each f (x ∷ xs) = f x ++ each f xs
-
 -- the numbers below n
 abbrev pub below : ℕ → List ℕ
 below zero = []
@@ -23,11 +19,11 @@ below (suc n) = n ∷ below n
 
 -- the moves by row i: alone, and with each of these lines
 abbrev pub moves_of : List ℕ → ℕ → List Move
-moves_of ls i = bare i ∷ each (λ j. record { row = i; line = Some j } ∷ []) ls
+moves_of ls i = bare i ∷ map (λ j. record { row = i; line = Some j }) ls
 
 -- the moves by every row, alone and with every line
 abbrev pub all_moves : Content → List Move
-all_moves c = each (moves_of (below (length c.lines))) (below (length c.rows))
+all_moves c = flat_map (moves_of (below (length c.lines))) (below (length c.rows))
 
 -- whether the two places are one
 abbrev pub same_place : Place → Place → Bool
@@ -59,7 +55,7 @@ close_by m a o k b w n (Some h) = close_effect m a o k b w n h h.effect
 
 -- the calls of bracket n opened by o at the cost k, with b inside, if b starts where o leads
 abbrev pub inside_if : Meaning → Content → Record → Move → ℕ → ℕ → Record → Bool → List Record
-inside_if m c a o k n b true = each (λ w. close_by m a o k b w n (arrival_on m c w b.to)) (all_moves c)
+inside_if m c a o k n b true = flat_map (λ w. close_by m a o k b w n (arrival_on m c w b.to)) (all_moves c)
 inside_if m c a o k n b false = []
 
 -- the same, where o leads to t
@@ -69,7 +65,7 @@ inside_by m c a o t k n b = inside_if m c a o k n b (same_place t b.from)
 -- the calls opened by o, which leads to h and does e
 abbrev pub open_effect : Meaning → Content → List Record → Record → Move → Arrival → Effect → List Record
 open_effect m c log a o h Quiet = []
-open_effect m c log a o h (Opens n) = each (inside_by m c a o h.to h.cost n) log
+open_effect m c log a o h (Opens n) = flat_map (inside_by m c a o h.to h.cost n) log
 open_effect m c log a o h (Closes n) = []
 open_effect m c log a o h Ends = []
 
@@ -88,17 +84,11 @@ from_record m c log a v = from_arrival m c log a v (arrival_on m c v a.to)
 
 -- all candidates of a log
 abbrev pub candidates : Meaning → Content → List Record → List Record
-candidates m c log = each (λ a. each (from_record m c log a) (all_moves c)) log
+candidates m c log = flat_map (λ a. flat_map (from_record m c log a) (all_moves c)) log
 
 -- whether no record of the log is of the pair of x
 abbrev pub unsettled? : List Record → Record → Bool
-unsettled? [] x = true
-unsettled? (a ∷ log) x = not (same_place a.from x.from && same_place a.to x.to) && unsettled? log x
-
--- those of the list whose pair is unsettled
-abbrev pub unsettled_of : List Record → List Record → List Record
-unsettled_of log [] = []
-unsettled_of log (x ∷ xs) = cond (unsettled? log x) (x ∷ unsettled_of log xs) (unsettled_of log xs)
+unsettled? log x = list_all (λ a. not (same_place a.from x.from && same_place a.to x.to)) log
 
 -- the test of the lexicographic order
 abbrev pub lex? : List ℕ → List ℕ → Bool
@@ -116,8 +106,7 @@ precedes? m c x y =
 
 -- of x and the list the first by a test
 abbrev pub first_by : {A : Type 0} → (A → A → Bool) → A → List A → A
-first_by test x [] = x
-first_by test x (y ∷ ys) = first_by test (cond (test x y) x y) ys
+first_by test x ys = fold (λ b y. cond (test b y) b y) x ys
 
 -- the first of these candidates, if it costs less than the worst
 abbrev pub next_of : Meaning → Content → List Record → Option Record
@@ -127,7 +116,7 @@ next_of m c (x ∷ xs) =
 
 -- the record that the next round adds, if there is one
 abbrev pub next : Meaning → Content → List Record → Option Record
-next m c log = next_of m c (unsettled_of log (candidates m c log))
+next m c log = next_of m c (filter (unsettled? log) (candidates m c log))
 
 -- the log as it is where there is no next record, else what f makes of the next record
 abbrev pub run_on : List Record → (Record → List Record) → Option Record → List Record
@@ -153,8 +142,7 @@ joins? c a s q = place_number c a.from == s && place_number c a.to == q
 
 -- the record of the log from the place numbered s to the place numbered q, if it has one
 unfoldable pub record_between : Content → List Record → ℕ → ℕ → Option Record
-record_between c [] s q = None
-record_between c (a ∷ log) s q = cond (joins? c a s q) (Some a) (record_between c log s q)
+record_between c log s q = find (λ a. joins? c a s q) log
 
 -- a reading that was found: its end row, its cost and its moves
 pub record ReadingFound : Type 0 where

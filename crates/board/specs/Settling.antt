@@ -1,5 +1,5 @@
 -- Settling: the log of records, the newest first, that the rounds reach, and the reading that a settled log holds.
-use Rattle.std.specs.Prelude.{◌≡◌, ℕ, zero, suc, ◌<◌, ◌≤◌, false, ◌⊎◌, List, [], ◌∷◌, ◌++◌, Some, None, Option, ◌≢◌}
+use Rattle.std.specs.Prelude.{◌≡◌, ℕ, zero, suc, ◌<◌, ◌≤◌, false, ◌⊎◌, List, [], ◌∷◌, ◌++◌, map, Some, None, Option, ◌≢◌}
 use Rattle.costs.specs.Meaning.{Meaning, NoDearer}
 use Rattle.board.specs.declared.moves.Move.{Move}
 use Rattle.board.specs.declared.moves.Effect.TheVariants.{Quiet, Opens, Closes, Ends}
@@ -71,8 +71,7 @@ places (suc n) t = moments_of n t ++ places n t
 
 -- the records of these places to themselves
 abbrev pub starts : Meaning → List Place → List Record
-starts m [] = []
-starts m (p ∷ ps) = start_record m p ∷ starts m ps
+starts m ps = map (start_record m) ps
 
 -- the records of all places to themselves, with which settling begins
 abbrev pub diagonal : Meaning → Content → List Record

@@ -19,7 +19,7 @@ impl Kind for Rank {
     ghost lawful = { Prim.search rules };
 
     fn is_cost(x: u32) -> bool {
-        x / BREACH <= 4_094 || x == 4_294_967_295
+        x / BREACH <= 4_094 || x == u32::MAX
     }
 
     fn no_dearer(a: u32, b: u32) -> bool {
@@ -29,7 +29,7 @@ impl Kind for Rank {
     fn join(a: u32, b: u32) -> u32 {
         let breaches = a / BREACH + b / BREACH;
         if breaches > 4_094 {
-            return 4_294_967_295;
+            return u32::MAX;
         }
         let seconds = a % BREACH + b % BREACH;
         breaches * BREACH + seconds.min(1_048_575)
@@ -40,7 +40,7 @@ impl Kind for Rank {
     }
 
     fn worst() -> u32 {
-        4_294_967_295
+        u32::MAX
     }
 
     fn letter() -> char {

@@ -31,7 +31,7 @@ impl Kind for Severity {
     }
 
     fn worst() -> u32 {
-        4_294_967_295
+        u32::MAX
     }
 
     fn letter() -> char {

@@ -1,6 +1,6 @@
 -- The layout of a file: what a file describes, how that is written in bytes, and the limits that it keeps.
 use Rattle.std.specs.Prelude.{◌≡◌, ℕ, zero, suc, ◌+◌, ◌-◌, ◌*◌, ◌/◌, ◌%◌, ◌^◌, ◌<◌, ◌≤◌, true, false, ◌↔◌, List, [], ◌∷◌, ◌++◌, map, length, Some, None, Ok, Option, Result}
-use Rattle.std.specs.List.{AllByRecursion}
+use Rattle.std.specs.List.{flat_map, AllByRecursion}
 use Rattle.costs.specs.Meaning.{Meaning, Cost}
 use Rattle.board.specs.declared.row.Row.{Row}
 use Rattle.board.specs.declared.row.Line.{Line}
@@ -68,14 +68,9 @@ line_bytes l = in_bytes 8 (line_word l)
 abbrev pub one_byte : ℕ → List ℕ
 one_byte b = b ∷ []
 
--- one after the other
-abbrev pub each_written : {A : Type 0} → (A → List ℕ) → List A → List ℕ
-each_written f [] = []
-each_written f (x ∷ xs) = f x ++ each_written f xs
-
--- what stands of a section that counts n: its head, with its code and its count, and what has come so far
+-- what stands of a section that counts n: its head, with its code and its count, and what has come so far, one after the other
 abbrev pub section_begun : {A : Type 0} → ℕ → (A → List ℕ) → ℕ → List A → List ℕ
-section_begun code f n xs = in_bytes 2 (head_word code n) ++ each_written f xs
+section_begun code f n xs = in_bytes 2 (head_word code n) ++ flat_map f xs
 
 -- a section: all that it counts has come; an absent one has no head
 abbrev pub section_written : {A : Type 0} → ℕ → (A → List ℕ) → Option (List A) → List ℕ

@@ -13,7 +13,7 @@ pub(crate) fn trusted_cost<K: Kind>(cost: u32, trust: u8) -> u32
         return cost;
     }
     let nearest = (u64::from(cost) * u64::from(trust) + 8) / 16;
-    if nearest > 4_294_967_294 {
+    if nearest > u64::from(u32::MAX - 1) {
         worst
     } else {
         nearest as u32

@@ -1,5 +1,6 @@
 -- What a line comes to.
-use Rattle.std.specs.Prelude.{◌≡◌, ℕ, ◌-◌, ◌^◌, ◌<◌, cond, List, [], ◌∷◌, ◌++◌, map, length, take, Some, None, Ok, Err, decimal, Option, Result, ◌==◌, slice_index, slice_index_or}
+use Rattle.std.specs.Prelude.{◌≡◌, ℕ, ◌-◌, ◌^◌, ◌<◌, cond, List, [], ◌∷◌, map, length, take, Some, None, Ok, Err, decimal, Option, Result, ◌==◌, slice_index, slice_index_or}
+use Rattle.std.specs.List.{flat_map, AllByRecursion}
 use Rattle.std.specs.Option.{option_map}
 use Rattle.costs.specs.Meaning.{Meaning}
 use Rattle.costs.specs.Lists.{join_answer}
@@ -84,13 +85,11 @@ line_answer line = words_answer (words_of line)
 
 -- costs in decimal digits, a space before each
 abbrev pub written_costs : List ℕ → List ℕ
-written_costs [] = []
-written_costs (x ∷ xs) = 32 ∷ (decimal x ++ written_costs xs)
+written_costs xs = flat_map (λ x. 32 ∷ decimal x) xs
 
 -- each number has 32 bits
 abbrev pub Of32Bits : List ℕ → Type 0
-Of32Bits [] = Unit {0}
-Of32Bits (x ∷ xs) = (x < 2 ^ 32) × Of32Bits xs
+Of32Bits xs = AllByRecursion (λ x. x < 2 ^ 32) xs
 
 -- The law of a line: a kind's letter and numbers in decimal digits come to what those numbers make, joined.
 abbrev pub ReadsWritten : Type 0

@@ -11,7 +11,7 @@ use std::alloc::Global;
 use words::{Spacing, number, pieces, word_theorems};
 
 // The largest number that a cost is written as.
-const LARGEST: u64 = 4_294_967_295;
+const LARGEST: u64 = u32::MAX as u64;
 
 // The line without a carriage return at its end.
 fn without_return(line: &[u8]) -> &[u8]

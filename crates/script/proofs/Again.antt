@@ -1,15 +1,20 @@
 -- A line that says a call has no '>', so the call is said again where an answer stands behind it.
-use Rattle.std.proofs.Common.{◌≡◌, ℕ, Bool, true, false, cond, List, [], ◌∷◌, ◌++◌, Some, None, codes, Option, sym, refl, ap, ◌∙◌, subst, ⊎_elim, arith}
-use Rattle.std.specs.List.{AllByRecursion}
+use Rattle.std.proofs.Common.{◌≡◌, ℕ, Bool, true, false, cond, List, [], ◌∷◌, ◌++◌, get_or, Some, None, Ok, Err, codes, Option, Result, sym, refl, ap, ◌∙◌, subst, ⊎_elim, arith}
+use Rattle.std.specs.List.{filter, onto_first, AllByRecursion}
 use Rattle.std.specs.Option.{option_map}
 use Rattle.std.proofs.lemmas.Option.{cond_some, option_and_then_some}
-use Rattle.std.proofs.lemmas.Bool.{cases_Bool, eqb-true, cond-true, cond-false, and_parts}
+use Rattle.std.proofs.lemmas.Bool.{cases_Bool, eqb-true, cond-false, and_parts}
 use Rattle.std.proofs.lemmas.Bool.Decides.{nat_tests}
+use Rattle.std.specs.Result.{result_ok}
+use Rattle.std.proofs.lemmas.List.Elements.{recursion_from_All}
+use Rattle.std.proofs.lemmas.List.Splits.{slice_split-cons_yes, slice_split-cons_no}
 use Rattle.std.proofs.lemmas.Slice.Eq.{bytes_eq-Decides}
 use Rattle.costs.specs.Names.{named_by}
-use Rattle.words.specs.Hex.{hex_value, then_digit, byte_before, bytes_of, hex_on, hex_number_of}
+use Rattle.hex.specs.Hex.{hex_digit_value, is_hex_digit, decode_of}
+use Rattle.hex.proofs.HexLemmas.{decode_of-ok}
+use Rattle.words.specs.Hex.{then_digit, bytes_of, hex_on, hex_number_of}
 use Rattle.words.specs.Numbers.{all_digits, is_number, number_of, number_before, numbers_of}
-use Rattle.words.specs.Pieces.{spacing, ended, pieces_after, pieces_of, NoSeparator}
+use Rattle.words.specs.Pieces.{spacing, has_byte, pieces_of, NoSeparator}
 use Rattle.words.specs.Splits.{split_of}
 use Rattle.words.specs.Laws.{WordLaws}
 use Rattle.script.specs.Calls.{Call, kind}
@@ -31,27 +36,21 @@ abbrev AllFree : List (List ℕ) → Type 0
 AllFree ws = AllByRecursion Free ws
 
 -- a line is free where its words are
-ended_free : (run : List ℕ) (ps : List (List ℕ)) → AllFree (ended run ps) → Free run × AllFree ps
-ended_free [] ps all = (tt, all)
-ended_free (b ∷ run) ps all = (all.0, all.1)
+first_free : (x : ℕ) (parts : List (List ℕ)) → AllFree (filter has_byte (onto_first x parts)) → (point x ≡ false) × AllFree (filter has_byte parts)
+first_free x [] all = (all.0.0, tt)
+first_free x ([] ∷ parts) all = (all.0.0, all.1)
+first_free x ((b ∷ part) ∷ parts) all = (all.0.0, (all.0.1, all.1))
 
 spacing_free : (b : ℕ) → spacing b ≡ true → point b ≡ false
 spacing_free b s = grind (arith, nat_tests)
 
-parts_free : (xs ys : List ℕ) → Free (xs ++ ys) → Free xs × Free ys
-parts_free [] ys free = (tt, free)
-parts_free (x ∷ xs) ys free = let p = parts_free xs ys free.1 in ((free.0, p.0), p.1)
-
-pieces_free : (run bs : List ℕ) → AllFree (pieces_after spacing run bs) → Free run × Free bs
-pieces_free run [] all = ((ended_free run [] all).0, tt)
-pieces_free run (b ∷ bs) all = ⊎_elim
-    (λ (s : spacing b ≡ true).
-    let e = ended_free run _ (subst AllFree (cond-true _ _ _ s) all) in
-    (e.0, (spacing_free b s, (pieces_free [] bs e.1).1)))
+pieces_free : (bs : List ℕ) → AllFree (pieces_of spacing bs) → Free bs
+pieces_free [] all = tt
+pieces_free (b ∷ bs) all = ⊎_elim
+    (λ (s : spacing b ≡ true). (spacing_free b s, pieces_free bs (subst (λ ps. AllFree (filter has_byte ps)) (slice_split-cons_yes spacing b bs s) all)))
     (λ (n : spacing b ≡ false).
-    let p = pieces_free (run ++ (b ∷ [])) bs (subst AllFree (cond-false _ _ _ n) all) in
-    let q = parts_free run (b ∷ []) p.0 in
-    (q.0, (q.1.0, p.1)))
+    let p = first_free b _ (subst (λ ps. AllFree (filter has_byte ps)) (slice_split-cons_no spacing b bs n) all) in
+    (p.0, pieces_free bs p.1))
     (cases_Bool (spacing b))
 
 -- decimal numbers
@@ -80,8 +79,8 @@ read_free read b y none some = ⊎_elim
     (cases_Bool (point b))
 
 -- hexadecimal numbers
-hex_free : (b v : ℕ) → hex_value b ≡ Some v → point b ≡ false
-hex_free b v e = read_free hex_value b v refl e
+hex_free : (b v : ℕ) → hex_digit_value b ≡ Some v → point b ≡ false
+hex_free b v e = read_free hex_digit_value b v refl e
 
 then_some : (o d : Option ℕ) (n : ℕ) → then_digit o d ≡ Some n → (k : ℕ) × (o ≡ Some k) × (v : ℕ) × (d ≡ Some v)
 then_some None d n e = absurd cc
@@ -91,8 +90,8 @@ then_some (Some k) (Some v) n e = (k, refl, v, refl)
 hex_on_free : (o : Option ℕ) (w : List ℕ) (n : ℕ) → hex_on o w ≡ Some n → Free w × ((k : ℕ) × (o ≡ Some k))
 hex_on_free o [] n e = (tt, (n, e))
 hex_on_free o (b ∷ w) n e =
-    let r = hex_on_free (then_digit o (hex_value b)) w n e in
-    let s = then_some o (hex_value b) r.1.0 r.1.1 in
+    let r = hex_on_free (then_digit o (hex_digit_value b)) w n e in
+    let s = then_some o (hex_digit_value b) r.1.0 r.1.1 in
     ((hex_free b s.2 s.3, r.0), (s.0, s.1))
 
 hex_number_free : (w : List ℕ) (n : ℕ) → hex_number_of w ≡ Some n → Free w
@@ -103,18 +102,17 @@ hex_number_free w n e = (hex_on_free (Some 0) w n (on _ _ e)).0
     on true o h = h
     on false o h = absurd cc
 
-byte_some : (o : Option ℕ) (p : Option (List ℕ)) (bs : List ℕ) → byte_before o p ≡ Some bs → (b : ℕ) × (o ≡ Some b) × (cs : List ℕ) × (p ≡ Some cs)
-byte_some None p bs e = absurd cc
-byte_some (Some b) None bs e = absurd cc
-byte_some (Some b) (Some cs) bs e = (b, refl, cs, refl)
+decoded : {E : Type 0} (r : Result (List ℕ) E) (bs : List ℕ) → result_ok r ≡ Some bs → r ≡ Ok bs
+decoded (Ok x) bs e = cc
+decoded (Err x) bs e = absurd cc
+
+digit_free : (b : ℕ) → is_hex_digit b ≡ true → point b ≡ false
+digit_free b e = grind (arith, nat_tests)
 
 bytes_free : (w bs : List ℕ) → bytes_of w ≡ Some bs → Free w
-bytes_free [] bs e = tt
-bytes_free (a ∷ []) bs e = absurd cc
-bytes_free (a ∷ b ∷ w) bs e =
-    let p = byte_some _ _ bs e in
-    let s = then_some (hex_value a) (hex_value b) p.0 p.1 in
-    (hex_free a s.0 s.1, (hex_free b s.2 s.3, bytes_free w p.2 p.3))
+bytes_free w bs e =
+    let digits = (decode_of-ok w bs (decoded (decode_of w) bs e)).1 in
+    recursion_from_All (λ b. point b ≡ false) w (λ k d within. digit_free (get_or w k d) (digits k d within))
 
 -- the words of check
 run_some : (o p : Option ℕ) (r : Run) → run_from o p ≡ Some r → (n : ℕ) × (o ≡ Some n) × (k : ℕ) × (p ≡ Some k)
@@ -247,4 +245,4 @@ words_free laws (w ∷ ws) c e = first_words laws w ws c (is_comment w) e
 pub said_again : WordLaws → (line answer : List ℕ) (c : Call) → line_parsed line ≡ call c → line_parsed (script_part_of line ++ (codes " -> " ++ answer)) ≡ call c
 said_again laws line answer c e =
     let part = script_part_of line in
-    line_answered laws part answer (pieces_free [] part (words_free laws (pieces_of spacing part) c e)).1 ∙ e
+    line_answered laws part answer (pieces_free part (words_free laws (pieces_of spacing part) c e)) ∙ e

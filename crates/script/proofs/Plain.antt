@@ -1,10 +1,12 @@
 -- Words with no spacing, no star and no '>' in them.
-use Rattle.std.proofs.Common.{◌≡◌, ℕ, ◌/◌, ◌%◌, ◌^◌, ◌<◌, Bool, true, false, not, ◌&&◌, ◌||◌, eqb, ltb, List, [], ◌∷◌, ◌++◌, length, decimal, sym, refl, ap, ◌∙◌, append_assoc, append-nil, arith}
-use Rattle.std.specs.List.{flat_map, AllByRecursion}
+use Rattle.std.proofs.Common.{◌≡◌, ℕ, ◌/◌, ◌%◌, ◌^◌, ◌<◌, Bool, true, false, not, ◌&&◌, ◌||◌, eqb, ltb, List, [], ◌∷◌, ◌++◌, length, Some, decimal, sym, refl, ap, ◌∙◌, append_assoc, append-nil, arith}
+use Rattle.std.specs.List.{slice_index, AllByRecursion}
 use Rattle.std.proofs.lemmas.Fmt.{decimal_nonempty}
 use Rattle.std.proofs.lemmas.Bool.{and_parts, or_parts, not-true, ltb-true}
 use Rattle.std.proofs.lemmas.Bool.Decides.{nat_tests}
-use Rattle.words.specs.Hex.{hex_digit_of, written_byte, written_u16}
+use Rattle.hex.specs.Hex.{hex_digit_value, lower_digits, encode_with}
+use Rattle.hex.proofs.HexLemmas.{length-encode_with, IsDigits-lower_digits}
+use Rattle.words.specs.Hex.{written_bytes, written_u16}
 use Rattle.words.specs.Numbers.{is_digit, all_digits}
 use Rattle.words.specs.Pieces.{spacing, newline, pieces_of, NoSeparator}
 use Rattle.words.specs.Laws.{WordLaws}
@@ -81,22 +83,22 @@ module _ (laws : WordLaws) where
   plain_decimal n small = (decimal_nonempty n small, free_digits (decimal n) (laws.digits n small))
 
 -- hexadecimal digits
-free_hex : (v : ℕ) → v < 16 → reserved (hex_digit_of v) ≡ false
-free_hex v small = grind (arith, nat_tests)
+free_hex : (b v : ℕ) → hex_digit_value b ≡ Some v → reserved b ≡ false
+free_hex b v e = grind (arith, nat_tests)
 
-free_byte : (b : ℕ) → b < 2 ^ 8 → NoSeparator reserved (written_byte b)
-free_byte b small = (free_hex (b / 16) (omega arith), (free_hex (b % 16) (omega arith), tt))
+free_value : (v : ℕ) → v < 16 → reserved (slice_index lower_digits v) ≡ false
+free_value v small = free_hex (slice_index lower_digits v) v (IsDigits-lower_digits v small)
 
-module _ (laws : WordLaws) where
-  free_bytes : (bs : List ℕ) → AllByRecursion (λ b. b < 2 ^ 8) bs → NoSeparator reserved (flat_map written_byte bs)
-  free_bytes [] small = tt
-  free_bytes (b ∷ bs) small = laws.uncut reserved (written_byte b) (flat_map written_byte bs) (free_byte b small.0) (free_bytes bs small.1)
+free_bytes : (bs : List ℕ) → AllByRecursion (λ b. b < 2 ^ 8) bs → NoSeparator reserved (written_bytes bs)
+unfolding encode_with
+free_bytes [] small = tt
+free_bytes (b ∷ bs) small = (free_value (b / 16) (omega (arith, small.0)), (free_value (b % 16) (omega arith), free_bytes bs small.1))
 
-  pub plain_bytes : (b : ℕ) (bs : List ℕ) → AllByRecursion (λ b. b < 2 ^ 8) (b ∷ bs) → Plain (flat_map written_byte (b ∷ bs))
-  plain_bytes b bs small = (omega arith, free_bytes (b ∷ bs) small)
+pub plain_bytes : (b : ℕ) (bs : List ℕ) → AllByRecursion (λ b. b < 2 ^ 8) (b ∷ bs) → Plain (written_bytes (b ∷ bs))
+plain_bytes b bs small = (omega (arith, length-encode_with lower_digits (b ∷ bs)), free_bytes (b ∷ bs) small)
 
-  pub plain_u16 : (n : ℕ) → n < 2 ^ 16 → Plain (written_u16 n)
-  plain_u16 n small = (omega arith, laws.uncut reserved (written_byte (n / 256)) (written_byte (n % 256)) (free_byte (n / 256) (omega arith)) (free_byte (n % 256) (omega arith)))
+pub plain_u16 : (n : ℕ) → n < 2 ^ 16 → Plain (written_u16 n)
+plain_u16 n small = plain_bytes (n / 256) (n % 256 ∷ []) (omega arith, (omega arith, tt))
 
 -- a kind's letter
 free_letter : (k : KindName) → reserved (letter_of k) ≡ false

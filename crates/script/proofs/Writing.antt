@@ -10,6 +10,7 @@ use Rattle.board.specs.declared.row.Row.{Row}
 use Rattle.board.specs.declared.row.RowKind.{RowKind}
 use Rattle.board.specs.declared.row.RowKind.TheVariants.{Plain as PlainRow, Open, Close, End}
 use Rattle.board.specs.Rows.{kind_number, kind_of_number}
+use Rattle.hex.specs.Hex.{decode_pairs}
 use Rattle.words.specs.Hex.{written_u16}
 use Rattle.words.specs.Numbers.{number_before, numbers_of}
 use Rattle.words.specs.Pieces.{spacing, pieces_of, NoSeparator}
@@ -44,7 +45,7 @@ module _ (laws : WordLaws) where
   -- packed moves
   run_back : (n : ℕ) → n < 2 ^ 16 → run_of (written_u16 n) ≡ Some (record { number = n; times = 1 })
   run_back n small =
-      ap (split_run (written_u16 n)) (no_star_split (written_u16 n) (fewer reserved star no_star (written_u16 n) (plain_u16 laws n small).1))
+      ap (split_run (written_u16 n)) (no_star_split (written_u16 n) (fewer reserved star no_star (written_u16 n) (plain_u16 n small).1))
       ∙ ap (λ o. run_from o (Some 1)) (laws.hex_back n small)
 
   runs_back : (ms : List ℕ) → AllByRecursion (λ m. m < 2 ^ 16) ms → runs_of (map written_u16 ms) ≡ Some ms
@@ -54,7 +55,7 @@ module _ (laws : WordLaws) where
 
   plain_moves : (ms : List ℕ) → AllByRecursion (λ m. m < 2 ^ 16) ms → AllByRecursion Plain (map written_u16 ms)
   plain_moves [] small = tt
-  plain_moves (m ∷ ms) small = (plain_u16 laws m small.0, plain_moves ms small.1)
+  plain_moves (m ∷ ms) small = (plain_u16 m small.0, plain_moves ms small.1)
 
 -- the limits are numbers of 64 bits
 two_wide_fit : AllByRecursion (λ m. m < 2 ^ 64) two_wide
@@ -92,7 +93,7 @@ plain_name c = plain_text (name_word c) (plain_names c)
 module _ (laws : WordLaws) where
   plain_file : (bs : List ℕ) → AllByRecursion (λ b. b < 2 ^ 8) bs → AllByRecursion Plain (file_words bs)
   plain_file [] small = tt
-  plain_file (b ∷ bs) small = (plain_bytes laws b bs small, tt)
+  plain_file (b ∷ bs) small = (plain_bytes b bs small, tt)
 
   pub plain_words : (c : Call) → Fits c → AllByRecursion Plain (words_after c)
   plain_words (kind k) fits = (plain_letter k, tt)
@@ -131,6 +132,7 @@ module _ (laws : WordLaws) where
   says_two make a b fits = ap (option_map (λ ns. make (get_or ns 0 0) (get_or ns 1 0))) (numbers_back laws two_wide (a ∷ b ∷ []) two_wide_fit fits)
 
   says_file : (bs : List ℕ) → AllByRecursion (λ b. b < 2 ^ 8) bs → load_call (file_words bs) ≡ Some (load bs)
+  unfolding decode_pairs
   says_file [] small = refl
   says_file (b ∷ bs) small = ap (option_map load) (laws.bytes_back (b ∷ bs) small)
 

@@ -9,7 +9,7 @@ use Rattle.file.specs.declared.call.NoteSpan.{NoteSpan}
 use Rattle.file.specs.declared.call.Answer.{Answer}
 use Rattle.file.specs.declared.call.Answer.TheVariants.{NotTaken, Sized, Added, Repriced, Cleared, Loaded, Settled, Cost, Path, Between, Checked, Reopened}
 use Rattle.file.specs.Answers.{bytes_at}
-use Rattle.words.specs.Hex.{written_byte, written_u16}
+use Rattle.words.specs.Hex.{written_bytes, written_u16}
 
 -- what was answered, or why it was refused
 abbrev pub result_text : {T E X : Type 0} → (T → X) → (E → X) → Result T E → X
@@ -27,7 +27,7 @@ file_of x = []
 
 -- a note: its place and its bytes, as they stand in the file
 abbrev pub note_text : List ℕ → NoteSpan → List ℕ
-note_text file n = codes "note " ++ (decimal n.place ++ (codes " " ++ flat_map written_byte (bytes_at n file)))
+note_text file n = codes "note " ++ (decimal n.place ++ (codes " " ++ written_bytes (bytes_at n file)))
 
 -- the longest buffer that is printed
 abbrev pub shown : ℕ

@@ -1,24 +1,23 @@
 -- Calls as lines: how each is written, and that it reads back.
 use Rattle.std.specs.Prelude.{◌≡◌, ℕ, ◌^◌, ◌<◌, ◌≤◌, List, [], ◌∷◌, ◌++◌, map, length, codes, decimal}
-use Rattle.std.specs.List.{flat_map, AllByRecursion}
+use Rattle.std.specs.List.{flat_map, AllByRecursion, AllZip}
 use Rattle.costs.specs.Names.{letter_of}
 use Rattle.board.specs.declared.row.Row.{Row}
 use Rattle.board.specs.declared.row.Line.{Line}
 use Rattle.board.specs.Rows.{kind_number}
-use Rattle.words.specs.Hex.{written_byte, written_u16}
+use Rattle.words.specs.Hex.{written_bytes, written_u16}
 use Rattle.script.specs.Calls.{Call, kind, size, row, line, reprice_row, reprice_line, clear, load, settle, reopen, cost, path, between, check}
 use Rattle.script.specs.Forms.{longest, two_wide, row_limits, line_limits}
 use Rattle.script.specs.Script.{call, script_part_of, line_parsed}
 
 -- words, a space before each
 abbrev pub spaced : List (List ℕ) → List ℕ
-spaced [] = []
-spaced (w ∷ ws) = 32 ∷ (w ++ spaced ws)
+spaced ws = flat_map (λ w. 32 ∷ w) ws
 
 -- the word of a file's bytes, where there are some
 abbrev pub file_words : List ℕ → List (List ℕ)
 file_words [] = []
-file_words (b ∷ bs) = flat_map written_byte (b ∷ bs) ∷ []
+file_words (b ∷ bs) = written_bytes (b ∷ bs) ∷ []
 
 -- the numbers of a row and of a line, in their order
 abbrev pub row_numbers : Row → List ℕ
@@ -67,10 +66,7 @@ written c = name_word c ++ spaced (words_after c)
 
 -- as many numbers as limits, each at most its limit
 abbrev pub UpTo : List ℕ → List ℕ → Type 0
-UpTo [] [] = Unit {0}
-UpTo [] (n ∷ ns) = ⊥
-UpTo (limit ∷ limits) [] = ⊥
-UpTo (limit ∷ limits) (n ∷ ns) = (n ≤ limit) × UpTo limits ns
+UpTo limits ns = AllZip (λ limit n. n ≤ limit) limits ns
 
 -- the numbers of a call are within their limits
 abbrev pub Fits : Call → Type 0

@@ -6,7 +6,7 @@ ghost use Rattle.file.specs.States.{draft};
 ghost use Rattle.file.specs.Histories.{state_of};
 ghost use Rattle.script.specs.Calls.{command_of, on_board};
 ghost use Rattle.script.specs.Script.{script_part_of, line_parsed};
-ghost use Rattle.script.specs.Printing.{buffer_of, made_text, made_state, board_text, board_after, call_text, call_after, printed, PrintsAnswers};
+ghost use Rattle.script.specs.Printing.{buffer_of, made_text, made_state, board_text, board_after, call_text, call_after, line_text, line_after, printed, PrintsAnswers};
 ghost use Rattle.script.specs.Worked.{WorkedScripts};
 ghost use Rattle.script.specs.Sessions.{standing, said};
 
@@ -139,6 +139,33 @@ fn push_script_part(out: &mut Vec<u8>, line: &[u8]) -> Result<(), AllocError>
     out.extend_from_slice(script_part(line))
 }
 
+// Adds what is printed of the line: its part that is the script, and the answer, or nothing where it is a comment or empty.
+// Gives the board after it.
+fn print_line(
+    heap: Global,
+    out: &mut Vec<u8>,
+    session: Option<Session>,
+    line: &[u8],
+) -> Result<Option<Session>, AllocError>
+    ensures text { OnOk result (out.new.items ≡ out.old.items ++ line_text (option_map standing session) (script_part_of line.now) (line_parsed line.now)) }
+    ensures after { IfOk result (λ s. option_map standing s ≡ line_after (option_map standing session) (line_parsed line.now)) }
+{
+    match read(heap, line)? {
+        Said::Nothing => Ok(session),
+        Said::Call(command) => {
+            push_script_part(out, line)?;
+            let next = obey(out, session, &command)?;
+            out.extend_from_slice(b"\n")?;
+            Ok(next)
+        }
+        Said::Unreadable => {
+            push_script_part(out, line)?;
+            out.extend_from_slice(b" -> unreadable\n")?;
+            Ok(session)
+        }
+    }
+}
+
 // Runs the script, and gives what is printed: each line with its answer, without comments and empty lines.
 #[tactic(auto, using(crate::proofs::Answered::prints_answers, crate::proofs::Working::worked))]
 pub fn run(heap: Global, input: &[u8]) -> Result<Vec<u8>, AllocError>
@@ -151,18 +178,7 @@ pub fn run(heap: Global, input: &[u8]) -> Result<Vec<u8>, AllocError>
     let mut out = Vec::new(heap);
     let mut session = None;
     for line in lines.as_slice() {
-        match read(heap, line)? {
-            Said::Nothing => continue,
-            Said::Call(command) => {
-                push_script_part(&mut out, line)?;
-                session = obey(&mut out, session, &command)?;
-            }
-            Said::Unreadable => {
-                push_script_part(&mut out, line)?;
-                out.extend_from_slice(b" -> unreadable")?;
-            }
-        }
-        out.extend_from_slice(b"\n")?;
+        session = print_line(heap, &mut out, session, line)?;
     }
     Ok(out)
 }

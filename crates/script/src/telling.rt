@@ -1,13 +1,12 @@
 // What is printed of a call's answer.
 ghost use Rattle.std.specs.Prelude.{◌≡◌, ◌++◌, OnOk, IfSome};
 ghost use Rattle.std.specs.List.{flat_map};
-ghost use Rattle.words.specs.Hex.{written_byte};
 ghost use Rattle.script.specs.Telling.{result_text, spaced_number, file_of, note_text, buffer_text, told_text};
 
 use file::{Answer, Call, NoteSpan};
 use std::alloc::AllocError;
 use std::fmt::Display;
-use words::{push_hex_byte, push_hex_u16};
+use words::{push_hex_bytes, push_hex_u16};
 
 // The longest buffer that is printed.
 const SHOWN: usize = 40;
@@ -54,23 +53,13 @@ fn push_buffer(out: &mut Vec<u8>, buffer: &[u16]) -> Result<(), AllocError>
     push_numbers(out, buffer)
 }
 
-// Adds the bytes.
-fn push_bytes(out: &mut Vec<u8>, bytes: &[u8]) -> Result<(), AllocError>
-    ensures { OnOk result (out.new.items ≡ out.old.items ++ flat_map written_byte bytes.now) }
-{
-    for byte in bytes {
-        push_hex_byte(out, *byte)?;
-    }
-    Ok(())
-}
-
 // Adds a note: its place and its bytes, which stand in the file.
 fn push_note(out: &mut Vec<u8>, file: &[u8], note: NoteSpan) -> Result<(), AllocError>
     ensures { OnOk result (out.new.items ≡ out.old.items ++ note_text file.now note) }
 {
     let text = format!(in *out.allocator(); "note {} ", note.place)?;
     out.extend_from_slice(text.as_bytes())?;
-    push_bytes(out, note.bytes(file))
+    push_hex_bytes(out, note.bytes(file))
 }
 
 // The bytes of the file that the call loads; another call has none.

@@ -1,5 +1,6 @@
 -- Cutting bytes at separators.
-use Rattle.std.specs.Prelude.{◌≡◌, ℕ, Bool, true, false, cond, ◌||◌, List, [], ◌∷◌, ◌++◌, ◌==◌}
+use Rattle.std.specs.Prelude.{◌≡◌, ℕ, Bool, true, false, ◌||◌, List, [], ◌∷◌, ◌++◌, ◌==◌}
+use Rattle.std.specs.List.{filter, slice_split, AllByRecursion}
 
 -- a space or a tab
 abbrev pub spacing : ℕ → Bool
@@ -8,24 +9,18 @@ spacing b = b == 32 || b == 9
 abbrev pub newline : ℕ → Bool
 newline b = b == 10
 
--- a run that has ended, before the pieces that follow; an empty one is no piece
-abbrev pub ended : List ℕ → List (List ℕ) → List (List ℕ)
-ended [] ps = ps
-ended (b ∷ bs) ps = (b ∷ bs) ∷ ps
+-- whether a run of bytes has one
+abbrev pub has_byte : List ℕ → Bool
+has_byte [] = false
+has_byte (b ∷ bs) = true
 
--- the pieces of a run that has begun and of the bytes after it
-abbrev pub pieces_after : (ℕ → Bool) → List ℕ → List ℕ → List (List ℕ)
-pieces_after sep run [] = ended run []
-pieces_after sep run (b ∷ bs) = cond (sep b) (ended run (pieces_after sep [] bs)) (pieces_after sep (run ++ (b ∷ [])) bs)
-
--- the longest runs of bytes that are no separators, in their order
+-- the longest runs of bytes that are no separators, in their order: what the separators part, without the empty runs
 abbrev pub pieces_of : (ℕ → Bool) → List ℕ → List (List ℕ)
-pieces_of sep bs = pieces_after sep [] bs
+pieces_of sep bs = filter has_byte (slice_split sep bs)
 
 -- no byte is a separator
 abbrev pub NoSeparator : (ℕ → Bool) → List ℕ → Type 0
-NoSeparator sep [] = Unit {0}
-NoSeparator sep (b ∷ bs) = (sep b ≡ false) × NoSeparator sep bs
+NoSeparator sep bs = AllByRecursion (λ b. sep b ≡ false) bs
 
 -- The three laws that fix the pieces.
 pub record CuttingLaws (sep : ℕ → Bool) : Type 0 where

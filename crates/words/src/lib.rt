@@ -3,14 +3,14 @@
 
 mod cut;
 mod decimal;
-mod hex;
+mod hexadecimal;
 mod split;
 mod theorems;
 mod trim;
 
 pub use cut::{Newline, Separator, Spacing, pieces};
 pub use decimal::{number, numbers};
-pub use hex::{hex_byte_pairs, hex_u16, push_hex_byte, push_hex_u16};
+pub use hexadecimal::{hex_byte_pairs, hex_u16, push_hex_bytes, push_hex_u16};
 pub use split::split_once;
 pub use theorems::word_theorems;
 pub use trim::trimmed;

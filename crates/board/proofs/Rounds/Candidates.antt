@@ -1,5 +1,6 @@
 -- The list `candidates` holds just the candidates.
-use Rattle.std.proofs.Common.{◌≡◌, ℕ, Bool, true, false, cond, eqb, List, [], ◌∷◌, length, Some, None, Option, sym, refl, subst, inl, inr, ⊎_elim}
+use Rattle.std.proofs.Common.{◌≡◌, ℕ, Bool, true, false, cond, eqb, List, [], ◌∷◌, map, length, Some, None, Option, sym, refl, subst, inl, inr, ⊎_elim}
+use Rattle.std.specs.List.{flat_map}
 use Rattle.std.proofs.lemmas.Option.{slice_get_within}
 use Rattle.std.proofs.lemmas.Bool.{eqb-true, eq-eqb, and_parts, and_from}
 use Rattle.costs.specs.Meaning.{Meaning}
@@ -11,8 +12,8 @@ use Rattle.board.specs.Content.{Content}
 use Rattle.board.specs.Moves.{Place, mode, moment, Transition}
 use Rattle.board.specs.Settling.{In, Record, step_record, call_record, Candidate, step, call}
 use Rattle.board.specs.Arrivals.{arrival_on}
-use Rattle.board.specs.Computing.{each, below, moves_of, all_moves, same_place, step_effect, close_effect, close_by, inside_if, inside_by, open_effect, from_arrival, from_record, candidates}
-use Rattle.board.proofs.Basics.Membership.{in_split, in_each, each_in, in_below}
+use Rattle.board.specs.Computing.{below, moves_of, all_moves, same_place, step_effect, close_effect, close_by, inside_if, inside_by, open_effect, from_arrival, from_record, candidates}
+use Rattle.board.proofs.Basics.Membership.{in_split, in_map, in_each, each_in, in_below}
 use Rattle.board.proofs.Rounds.Diagonal.{place_eq}
 use Rattle.board.proofs.Paths.Transitions.{arrival_transition, transition_arrival}
 
@@ -30,7 +31,7 @@ module _ (m : Meaning) (c : Content) where
   transition_listed v p q k e g =
       let ls = below (length c.lines) in
       let row_in = in_below _ _ (slice_get_within c.rows v.row g.by g.found) in
-      let here : In v (moves_of ls v.row) = ⊎_elim (λ s. inl (move_eq v _ refl s.alone)) (λ s. inr (in_each (λ j. record { row = v.row; line = Some j } ∷ []) ls s.number v (in_below _ _ (slice_get_within c.lines s.number s.taken s.found)) (inl (move_eq v _ refl s.along)))) g.time in
+      let here : In v (moves_of ls v.row) = ⊎_elim (λ s. inl (move_eq v _ refl s.alone)) (λ s. inr (subst (λ w. In w (map (λ j. record { row = v.row; line = Some j }) ls)) (sym (move_eq v _ refl s.along)) (in_map (λ j. record { row = v.row; line = Some j }) s.number ls (in_below _ _ (slice_get_within c.lines s.number s.taken s.found))))) g.time in
       in_each (moves_of ls) _ v.row v row_in here
 
   -- each candidate is listed
@@ -38,14 +39,14 @@ module _ (m : Meaning) (c : Content) where
   listed log _ (step a {v} {q} {k} i g) =
       let x = step_record m a v q k in
       let here : In x (from_record m c log a v) = subst (λ o. In x (from_arrival m c log a v o)) (sym (transition_arrival m c v a.to q k Quiet g)) (inl refl) in
-      in_each (λ z. each (from_record m c log z) (all_moves c)) log a x i (in_each (from_record m c log a) _ v x (transition_listed v _ _ _ _ g) here)
+      in_each (λ z. flat_map (from_record m c log z) (all_moves c)) log a x i (in_each (from_record m c log a) _ v x (transition_listed v _ _ _ _ g) here)
   listed log _ (call a b {o} {w} {q} {k} {l} {n} i g j h) =
       let x = call_record m a o k b w l q in
       let closed : In x (cond (eqb n n) (x ∷ []) []) = subst (λ t. In x (cond t (x ∷ []) [])) (sym (eq-eqb n n refl)) (inl refl) in
       let here₁ : In x (close_by m a o k b w n (arrival_on m c w b.to)) = subst (λ s. In x (close_by m a o k b w n s)) (sym (transition_arrival m c w b.to q l (Closes n) h)) closed in
       let here₂ : In x (inside_by m c a o b.from k n b) = subst (λ t. In x (inside_if m c a o k n b t)) (sym (same_place_refl b.from)) (in_each (λ z. close_by m a o k b z n (arrival_on m c z b.to)) _ w x (transition_listed w _ _ _ _ h) here₁) in
       let here₃ : In x (from_record m c log a o) = subst (λ s. In x (from_arrival m c log a o s)) (sym (transition_arrival m c o a.to b.from k (Opens n) g)) (in_each (inside_by m c a o b.from k n) log b x j here₂) in
-      in_each (λ z. each (from_record m c log z) (all_moves c)) log a x i (in_each (from_record m c log a) _ o x (transition_listed o _ _ _ _ g) here₃)
+      in_each (λ z. flat_map (from_record m c log z) (all_moves c)) log a x i (in_each (from_record m c log a) _ o x (transition_listed o _ _ _ _ g) here₃)
 
   -- each that is listed is a candidate
   from_step : (log : List Record) (a : Record) (v : Move) (x : Record) (h : Arrival) (e : Effect) → In a log → Transition m c v a.to h.to h.cost e → In x (step_effect m a v h e) → Candidate m c log x
@@ -90,6 +91,6 @@ module _ (m : Meaning) (c : Content) where
 
   pub unlisted : (log : List Record) (x : Record) → In x (candidates m c log) → Candidate m c log x
   unlisted log x z =
-      let r = each_in (λ a. each (from_record m c log a) (all_moves c)) log x z in
+      let r = each_in (λ a. flat_map (from_record m c log a) (all_moves c)) log x z in
       let q = each_in (from_record m c log r.0) (all_moves c) x r.2 in
       from_some log r.0 q.0 x _ refl r.1 q.2

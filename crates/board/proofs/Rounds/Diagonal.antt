@@ -5,7 +5,7 @@ use Rattle.costs.specs.Meaning.{Meaning}
 use Rattle.board.specs.Content.{Content}
 use Rattle.board.specs.Moves.{Place, mode, moment, On}
 use Rattle.board.specs.Settling.{In, Record, start_record, moments_of, places, starts, diagonal, Unsettled, Rounds, begin, round}
-use Rattle.board.proofs.Basics.Membership.{in_left, in_right, in_split}
+use Rattle.board.proofs.Basics.Membership.{in_left, in_right, in_split, in_map}
 
 pub place_eq : (p q : Place) → mode p ≡ mode q → moment p ≡ moment q → p ≡ q
 place_eq p q e f = λ i. (e i, f i)
@@ -18,13 +18,8 @@ pub in_places : (p : Place) (n t : ℕ) → mode p < n → moment p < t → In p
 in_places p zero t e h = absurd (omega arith)
 in_places p (suc n) t e h = ⊎_elim (λ (f : mode p ≡ n). in_left p (moments_of n t) (places n t) (in_moments p n t f h)) (λ (f : mode p ≡ n → ⊥). in_right p (moments_of n t) (places n t) (in_places p n t (omega arith) h)) (cases_eq (mode p) n)
 
-in_starts : (m : Meaning) (p : Place) (ps : List Place) → In p ps → In (start_record m p) (starts m ps)
-in_starts m p [] h = absurd h
-in_starts m p (x ∷ ps) (inl e) = inl (ap (start_record m) e)
-in_starts m p (x ∷ ps) (inr h) = inr (in_starts m p ps h)
-
 in_diagonal : (m : Meaning) (c : Content) (p : Place) → On c p → In (start_record m p) (diagonal m c)
-in_diagonal m c p on = in_starts m p _ (in_places p _ _ on.0 on.1)
+in_diagonal m c p on = in_map (start_record m) p _ (in_places p _ _ on.0 on.1)
 
 -- every log holds the diagonal
 pub in_rounds : {m : Meaning} {c : Content} {n : ℕ} {log : List Record} (p : Place) → Rounds m c n log → On c p → In (start_record m p) log

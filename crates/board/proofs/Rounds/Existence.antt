@@ -1,11 +1,12 @@
 -- A run of as many rounds as there are pairs of places settles.
 use Rattle.std.proofs.Common.{◌≡◌, ℕ, zero, suc, ◌*◌, ◌<◌, ◌≤◌, Bool, true, false, cond, not, ◌&&◌, List, [], ◌∷◌, length, Some, None, Option, sym, refl, ap, ◌∙◌, inl, inr, suc-mul, zero-mul, arith, length-append}
+use Rattle.std.specs.List.{flat_map}
 use Rattle.std.proofs.lemmas.Bool.{and_from, and_left, not_from_true}
 use Rattle.costs.specs.Meaning.{Meaning, Lawful}
 use Rattle.board.specs.Content.{Content, Sound}
 use Rattle.board.specs.Moves.{Place}
 use Rattle.board.specs.Settling.{In, Record, start, diagonal, moments_of, places, Round, Rounds, begin, round, Settled}
-use Rattle.board.specs.Computing.{each, same_place, unsettled?, next, run_on, run, pair_count, settled_log}
+use Rattle.board.specs.Computing.{same_place, unsettled?, next, run_on, run, pair_count, settled_log}
 use Rattle.board.proofs.Basics.Membership.{in_each}
 use Rattle.board.proofs.Rounds.Diagonal.{in_places}
 use Rattle.board.proofs.Rounds.Candidates.{same_place_refl}
@@ -17,10 +18,10 @@ abbrev pair_of : Place → Place → Record
 pair_of s q = record { from = s; to = q; cost = 0; derivation = start; moves = [] }
 
 abbrev pairs_from : List Place → Place → List Record
-pairs_from ps s = each (λ q. pair_of s q ∷ []) ps
+pairs_from ps s = flat_map (λ q. pair_of s q ∷ []) ps
 
 abbrev pairs : List Place → List Record
-pairs ps = each (pairs_from ps) ps
+pairs ps = flat_map (pairs_from ps) ps
 
 in_pairs : (ps : List Place) (s q : Place) → In s ps → In q ps → In (pair_of s q) (pairs ps)
 in_pairs ps s q i j = in_each (pairs_from ps) ps s (pair_of s q) i (in_each (λ w. pair_of s w ∷ []) ps q (pair_of s q) j (inl refl))
@@ -34,9 +35,9 @@ length_places : (n t : ℕ) → length (places n t) ≡ n * t
 length_places zero t = sym (zero-mul t)
 length_places (suc n) t = omega (arith, length-append (moments_of n t) (places n t), length_moments n t, length_places n t, suc-mul n t)
 
-length_each : {A B : Type 0} (f : A → List B) (k : ℕ) → ((x : A) → length (f x) ≡ k) → (xs : List A) → length (each f xs) ≡ length xs * k
+length_each : {A B : Type 0} (f : A → List B) (k : ℕ) → ((x : A) → length (f x) ≡ k) → (xs : List A) → length (flat_map f xs) ≡ length xs * k
 length_each f k h [] = sym (zero-mul k)
-length_each f k h (x ∷ xs) = omega (arith, length-append (f x) (each f xs), h x, length_each f k h xs, suc-mul (length xs) k)
+length_each f k h (x ∷ xs) = omega (arith, length-append (f x) (flat_map f xs), h x, length_each f k h xs, suc-mul (length xs) k)
 
 length_pairs_from : (ps : List Place) (s : Place) → length (pairs_from ps s) ≡ length ps
 length_pairs_from ps s = length_each (λ q. pair_of s q ∷ []) 1 (λ q. refl) ps ∙ omega arith

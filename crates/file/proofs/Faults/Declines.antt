@@ -2,7 +2,7 @@
 use Rattle.std.proofs.Common.{◌≡◌, ℕ, ◌+◌, ◌*◌, ◌<◌, ◌≤◌, Bool, true, false, ◌||◌, eqb, ltb, ◌⊎◌, List, ◌++◌, length, take, drop, Some, None, Ok, Err, Option, Result, sym, refl, ap, ◌∙◌, inl, inr, append_assoc, arith, length-append}
 use Rattle.std.proofs.lemmas.List.{length-take, length-drop}
 use Rattle.std.proofs.lemmas.Bool.{eqb-true, true≢false, lt-ltb, cases_lt}
-use Rattle.std.specs.List.{AllByRecursion}
+use Rattle.std.specs.List.{flat_map, AllByRecursion}
 use Rattle.costs.specs.Meaning.{Meaning}
 use Rattle.board.specs.declared.row.Row.{Row}
 use Rattle.board.specs.declared.row.Line.{Line}
@@ -18,7 +18,7 @@ use Rattle.file.specs.Sections.{rows_code, lines_code, note_code, next_section, 
 use Rattle.file.specs.Readers.{may_come}
 use Rattle.file.specs.Records.{go_on, row_record, line_record, record_next, records}
 use Rattle.file.specs.Load.{Loaded, loaded_as, with_content, section_added, at_end, from_note, from_lines, from_rows}
-use Rattle.file.specs.Layout.{Description, in_bytes, head_word, row_word, line_word, row_bytes, line_bytes, one_byte, each_written, section_begun, section_written, header_written, written, Byte, KeepsLimits, content_of}
+use Rattle.file.specs.Layout.{Description, in_bytes, head_word, row_word, line_word, row_bytes, line_bytes, one_byte, section_begun, section_written, header_written, written, Byte, KeepsLimits, content_of}
 use Rattle.file.specs.Declined.{at_head, at_row, at_line, at_note, before, may_follow, row_part_fault, line_part_fault, Declined}
 use Rattle.file.proofs.Loads.Bytes.{each_take, each_drop}
 use Rattle.file.proofs.Loads.Words.{RowFits, row_word_fits, LineFits, line_word_fits, count_below}
@@ -167,7 +167,7 @@ module _ (m : Meaning) (bs : List ℕ) (d : Description) where
       let laid : before due ++ s.rest ≡ bs =
       ap (λ (ys : List ℕ). header_written d ++ ys) (append_assoc (section_written rows_code row_bytes rows) (section_begun lines_code line_bytes n ls) s.rest)
       ∙ (ap (λ (ys : List ℕ). header_written d ++ (section_written rows_code row_bytes rows ++ ys)) (sym split) ∙ r.laid) in
-      let ends : p.place + 2 + 8 * length ls + length s.rest ≡ length bs = omega (arith, r.ends, ap length split, length-append (each_written line_bytes ls) s.rest, each_length line_bytes (λ l. refl) ls) in
+      let ends : p.place + 2 + 8 * length ls + length s.rest ≡ length bs = omega (arith, r.ends, ap length split, length-append (flat_map line_bytes ls) s.rest, each_length line_bytes (λ l. refl) ls) in
       let broken = refused_with (line_part_fault m d.trust (content_of m whole) s.rest) _ s.refusal (sym (line_rules m d.trust (content_of m whole) s.rest) ∙ (ap (λ (z : Content). record_next (line_record m d.trust) s.rest z) (sym k.2) ∙ s.broken)) in
       record {
         due = due;
@@ -188,7 +188,7 @@ module _ (m : Meaning) (bs : List ℕ) (d : Description) where
       let ls = t.lines in
       let split : p.bytes ≡ section_begun lines_code line_bytes (length ls) ls ++ (past p).bytes =
       laid_head p.bytes lines_code (length ls) long r.bytes is t.count
-      ∙ ap (λ (ys : List ℕ). in_bytes 2 (head_word lines_code (length ls)) ++ ys) (t.laid ∙ ap (λ (ys : List ℕ). each_written line_bytes ls ++ ys) (sym (past_records m d.trust p x lines_code is refl))) in
+      ∙ ap (λ (ys : List ℕ). in_bytes 2 (head_word lines_code (length ls)) ++ ys) (t.laid ∙ ap (λ (ys : List ℕ). flat_map line_bytes ls ++ ys) (sym (past_records m d.trust p x lines_code is refl))) in
       note_stops rows (Some ls) (past p) (loaded_as c x.note) f
       (record {
         keeps = keeps_lines d rows ls r.keeps (omega (arith, t.few)) t.keep;
@@ -227,7 +227,7 @@ module _ (m : Meaning) (bs : List ℕ) (d : Description) where
       let split : p.bytes ≡ section_begun rows_code row_bytes n rs ++ s.rest =
       laid_head p.bytes rows_code n long r.bytes is refl ∙ ap (λ (ys : List ℕ). in_bytes 2 (head_word rows_code n) ++ ys) s.laid in
       let laid : before due ++ s.rest ≡ bs = ap (λ (ys : List ℕ). header_written d ++ ys) (sym split) ∙ r.laid in
-      let ends : p.place + 2 + 8 * length rs + length s.rest ≡ length bs = omega (arith, r.ends, ap length split, length-append (each_written row_bytes rs) s.rest, each_length row_bytes (λ r. refl) rs) in
+      let ends : p.place + 2 + 8 * length rs + length s.rest ≡ length bs = omega (arith, r.ends, ap length split, length-append (flat_map row_bytes rs) s.rest, each_length row_bytes (λ r. refl) rs) in
       let broken = refused_with (row_part_fault m (content_of m whole) s.rest) _ s.refusal (sym (row_rules m (content_of m whole) s.rest) ∙ (ap (λ (z : Content). record_next (row_record m) s.rest z) (sym k.2) ∙ s.broken)) in
       record {
         due = due;
@@ -247,7 +247,7 @@ module _ (m : Meaning) (bs : List ℕ) (d : Description) where
       let rs = t.rows in
       let split : p.bytes ≡ section_begun rows_code row_bytes (length rs) rs ++ (past p).bytes =
       laid_head p.bytes rows_code (length rs) long r.bytes is t.count
-      ∙ ap (λ (ys : List ℕ). in_bytes 2 (head_word rows_code (length rs)) ++ ys) (t.laid ∙ ap (λ (ys : List ℕ). each_written row_bytes rs ++ ys) (sym (past_records m d.trust p x rows_code is refl))) in
+      ∙ ap (λ (ys : List ℕ). in_bytes 2 (head_word rows_code (length rs)) ++ ys) (t.laid ∙ ap (λ (ys : List ℕ). flat_map row_bytes rs ++ ys) (sym (past_records m d.trust p x rows_code is refl))) in
       lines_stops (Some rs) (past p) (loaded_as c x.note) f
       (record {
         keeps = keeps_rows d rs r.keeps (omega (arith, t.few)) t.keep;

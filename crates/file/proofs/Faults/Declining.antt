@@ -3,7 +3,7 @@
 use Rattle.std.proofs.Common.{◌≡◌, ℕ, ◌+◌, ◌-◌, ◌*◌, ◌<◌, ◌≤◌, Bool, true, false, cond, ltb, ◌⊎◌, List, [], ◌++◌, length, get_or, take, drop, Some, None, Ok, Err, Option, Result, sym, refl, ap, ◌∙◌, subst, inl, inr, append_assoc, arith, length-append}
 use Rattle.std.proofs.lemmas.List.{length-take, length-drop}
 use Rattle.std.proofs.lemmas.Bool.{true≢false, ltb-true, lt-ltb}
-use Rattle.std.specs.List.{AllByRecursion}
+use Rattle.std.specs.List.{flat_map, AllByRecursion}
 use Rattle.costs.specs.Meaning.{Meaning}
 use Rattle.board.specs.declared.row.Row.{Row}
 use Rattle.board.specs.declared.row.Line.{Line}
@@ -17,7 +17,7 @@ use Rattle.file.specs.Parts.{Piece, fault_at}
 use Rattle.file.specs.Sections.{rows_code, lines_code, note_code, next_section, past}
 use Rattle.file.specs.Records.{go_on, at_place, row_record, line_record, record_next, records}
 use Rattle.file.specs.Load.{Opened, opened, Loaded, loaded_as, with_content, section_added, at_end, from_note, from_lines, from_rows, after_header, no_note, loaded, note_answer, load_answer}
-use Rattle.file.specs.Layout.{Description, held_in, in_bytes, head_word, row_word, line_word, row_bytes, line_bytes, one_byte, each_written, section_begun, section_written, header_written, written, Byte, RowLimits, LineLimits, KeepsLimits, content_of}
+use Rattle.file.specs.Layout.{Description, held_in, in_bytes, head_word, row_word, line_word, row_bytes, line_bytes, one_byte, section_begun, section_written, header_written, written, Byte, RowLimits, LineLimits, KeepsLimits, content_of}
 use Rattle.file.specs.Declined.{Due, at_header, at_head, at_row, at_line, at_note, before, Stands, header_fault, may_follow, head_fault, row_part_fault, line_part_fault, note_fault, part_fault, Declined, DeclinesExactly}
 use Rattle.file.proofs.Loads.Bytes.{bytes_word4, word4_fits, each_byte, each_drop}
 use Rattle.file.proofs.Loads.Words.{RowFits, row_word_fits, LineFits, line_word_fits, HeaderWas, header_read_word}
@@ -125,8 +125,8 @@ module _ (m : Meaning) (d : Description) where
       passes_rows m d.trust p x (subst (Other rows_code) (sym laid) (other refl)) ∙ (λ i. from_lines m d.trust (record { bytes = laid i; place = e i }) x)
   go_rows (Some rs) p n rest after few keep laid ends other =
       let x = loaded_as (content_of m (described d None None None)) n in
-      let a = head_at p.bytes rows_code (length rs) (8 * length rs) (each_written row_bytes rs) rest (omega arith) (omega arith) (each_length row_bytes (λ r. refl) rs) laid in
-      let b = records_rest m d.trust p x rows_code (length rs) (each_written row_bytes rs) rest refl a in
+      let a = head_at p.bytes rows_code (length rs) (8 * length rs) (flat_map row_bytes rs) rest (omega arith) (omega arith) (each_length row_bytes (λ r. refl) rs) laid in
+      let b = records_rest m d.trust p x rows_code (length rs) (flat_map row_bytes rs) rest refl a in
       let e : (past p).place ≡ after = omega (arith, past_ends p a.long, ap length b) in
       takes_rows m d.trust p x a.long a.its_code
       ∙ (ap (λ (o : Result Loaded LoadFault). go_on o (from_lines m d.trust (past p))) (adds_rows m d.trust p x rs rest (omega arith) keep a)
@@ -139,8 +139,8 @@ module _ (m : Meaning) (d : Description) where
       passes_lines m d.trust p x (subst (Other lines_code) (sym laid) (other refl)) ∙ (λ i. from_note m d.trust (record { bytes = laid i; place = e i }) x)
   go_lines rows (Some ls) p n rest after few keep laid ends other =
       let x = loaded_as (content_of m (described d rows None None)) n in
-      let a = head_at p.bytes lines_code (length ls) (8 * length ls) (each_written line_bytes ls) rest (omega arith) (omega arith) (each_length line_bytes (λ l. refl) ls) laid in
-      let b = records_rest m d.trust p x lines_code (length ls) (each_written line_bytes ls) rest refl a in
+      let a = head_at p.bytes lines_code (length ls) (8 * length ls) (flat_map line_bytes ls) rest (omega arith) (omega arith) (each_length line_bytes (λ l. refl) ls) laid in
+      let b = records_rest m d.trust p x lines_code (length ls) (flat_map line_bytes ls) rest refl a in
       let e : (past p).place ≡ after = omega (arith, past_ends p a.long, ap length b) in
       takes_lines m d.trust p x a.long a.its_code
       ∙ (ap (λ (o : Result Loaded LoadFault). go_on o (from_note m d.trust (past p))) (adds_lines m d.trust p x ls rest (omega arith) keep a)
@@ -239,7 +239,7 @@ module _ (m : Meaning) (d : Description) (k : KeepsLimits m d) where
       let ls = held_in d.lines in
       let rows = section_written rows_code row_bytes d.rows in
       let begun = section_begun lines_code line_bytes n ls in
-      let body = each_written line_bytes ls ++ rest in
+      let body = flat_map line_bytes ls ++ rest in
       let tail = in_bytes 2 (head_word lines_code n) ++ body in
       let place = 4 + length rows in
       let s = past_rows tail (λ q. other_begins 1 lines_code n body (omega arith) few (λ e. omega arith)) in
@@ -267,7 +267,7 @@ module _ (m : Meaning) (d : Description) (k : KeepsLimits m d) where
   at_row_refused n rest r none more few h =
       let rs = held_in d.rows in
       let begun = section_begun rows_code row_bytes n rs in
-      let body = each_written row_bytes rs ++ rest in
+      let body = flat_map row_bytes rs ++ rest in
       let tail = in_bytes 2 (head_word rows_code n) ++ body in
       let s = start tail in
       let p : Piece = record { bytes = tail; place = 4 } in

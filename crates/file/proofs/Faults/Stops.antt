@@ -2,7 +2,7 @@
 use Rattle.std.proofs.Common.{◌≡◌, ℕ, zero, suc, ◌+◌, ◌*◌, ◌^◌, ◌<◌, ◌≤◌, Bool, true, false, cond, ltb, List, [], ◌∷◌, ◌++◌, length, take, drop, Ok, Err, Result, sym, refl, ap, ◌∙◌, subst, inl, inr, arith, take-append-drop}
 use Rattle.std.proofs.lemmas.List.{length-take, take_all, drop-take}
 use Rattle.std.proofs.lemmas.Bool.{ltb-false, le-ltb, cases_lt}
-use Rattle.std.specs.List.{AllByRecursion}
+use Rattle.std.specs.List.{flat_map, AllByRecursion}
 use Rattle.board.specs.Content.{Content}
 use Rattle.file.specs.declared.refusal.FileRefusal.{FileRefusal}
 use Rattle.file.specs.declared.refusal.FileRefusal.TheVariants.{CutShort}
@@ -10,7 +10,7 @@ use Rattle.file.specs.declared.refusal.LoadFault.{LoadFault}
 use Rattle.file.specs.Fields.{word8}
 use Rattle.file.specs.Parts.{fault_at}
 use Rattle.file.specs.Records.{go_on, at_place, record_next, records}
-use Rattle.file.specs.Layout.{in_bytes, each_written, Byte}
+use Rattle.file.specs.Layout.{in_bytes, Byte}
 use Rattle.file.proofs.Loads.Bytes.{word8_bytes, bytes_word8, word8_fits, each_drop}
 use Rattle.file.proofs.Loads.Steps.{records_more}
 use Rattle.file.proofs.Loads.Sequences.{Run, WasAdded}
@@ -50,7 +50,7 @@ pub record Stopped {A : Type 0} (add : Content → ℕ → Result Content FileRe
   pub entries : List A
   pub more : length entries < n
   pub rest : List ℕ
-  pub laid : bs ≡ each_written (λ x. in_bytes 8 (word_of x)) entries ++ rest
+  pub laid : bs ≡ flat_map (λ x. in_bytes 8 (word_of x)) entries ++ rest
   pub content : Content
   pub run : Run Fits Taken put c entries content
   pub refusal : FileRefusal
@@ -62,7 +62,7 @@ module _ {A : Type 0} (add : Content → ℕ → Result Content FileRefusal) (wo
   stops_later : (n : ℕ) (bs : List ℕ) (place : ℕ) (c d : Content) (f : LoadFault) → AllByRecursion Byte bs → 8 ≤ length bs → WasAdded word_of Fits Taken put c d (word8 bs) → Stopped add word_of Fits Taken put n (drop 8 bs) (place + 8) d f → Stopped add word_of Fits Taken put (suc n) bs place c f
   stops_later n bs place c d f e long first later =
       let w = word_of first.entry in
-      let tail = each_written (λ x. in_bytes 8 (word_of x)) later.entries in
+      let tail = flat_map (λ x. in_bytes 8 (word_of x)) later.entries in
       let at : place + 8 + 8 * length later.entries ≡ place + 8 * length (first.entry ∷ later.entries) = omega arith in
       record {
         entries = first.entry ∷ later.entries;
@@ -92,13 +92,13 @@ module _ {A : Type 0} (add : Content → ℕ → Result Content FileRefusal) (wo
       stops_by n bs place c f (record_next add bs c) e refl h (λ d k. stops n (drop 8 bs) (place + 8) d f (each_drop 8 bs e) k)
 
   -- what is left once the records of a list are put on the board
-  pub records_past : (xs : List A) (n k : ℕ) (rest : List ℕ) (place after : ℕ) (c d : Content) → n ≡ length xs + k → after ≡ place + 8 * length xs → Run Fits Taken put c xs d → records add n (each_written (λ x. in_bytes 8 (word_of x)) xs ++ rest) place c ≡ records add k rest after d
+  pub records_past : (xs : List A) (n k : ℕ) (rest : List ℕ) (place after : ℕ) (c d : Content) → n ≡ length xs + k → after ≡ place + 8 * length xs → Run Fits Taken put c xs d → records add n (flat_map (λ x. in_bytes 8 (word_of x)) xs ++ rest) place c ≡ records add k rest after d
   records_past [] n k rest place after c d count at r =
       let e : n ≡ k = omega arith in
       let p : place ≡ after = omega arith in
       λ i. records add (e i) rest (p i) (sym r i)
   records_past (x ∷ xs) n k rest place after c d count at (fits, taken, r) =
-      let tail = each_written (λ y. in_bytes 8 (word_of y)) xs ++ rest in
+      let tail = flat_map (λ y. in_bytes 8 (word_of y)) xs ++ rest in
       let w = word8_bytes (word_of x) tail (small x fits) in
       let long = le-ltb (length (in_bytes 8 (word_of x) ++ tail)) 8 (omega arith) in
       records_more add (in_bytes 8 (word_of x) ++ tail) place c n (length xs + k) (put c x) (omega arith) (rw long (sym (ap (add c) w ∙ forth c x fits taken)))

@@ -2,14 +2,14 @@
 -- board takes.
 use Rattle.std.proofs.Common.{◌≡◌, ℕ, zero, suc, ◌+◌, ◌*◌, ◌^◌, ◌<◌, ◌≤◌, Bool, true, false, cond, ltb, List, [], ◌∷◌, ◌++◌, length, drop, Ok, Err, Result, sym, refl, ap, ◌∙◌, subst, arith, drop-drop}
 use Rattle.std.proofs.lemmas.Bool.{ltb-false, le-ltb}
-use Rattle.std.specs.List.{AllByRecursion}
+use Rattle.std.specs.List.{flat_map, AllByRecursion}
 use Rattle.board.specs.Content.{Content}
 use Rattle.file.specs.declared.refusal.FileRefusal.{FileRefusal}
 use Rattle.file.specs.declared.refusal.FileRefusal.TheVariants.{CutShort}
 use Rattle.file.specs.declared.refusal.LoadFault.{LoadFault}
 use Rattle.file.specs.Fields.{word8}
 use Rattle.file.specs.Records.{go_on, at_place, records}
-use Rattle.file.specs.Layout.{in_bytes, each_written, Byte}
+use Rattle.file.specs.Layout.{in_bytes, Byte}
 use Rattle.file.proofs.Loads.Bytes.{word8_bytes, bytes_word8, word8_fits, each_drop}
 use Rattle.file.proofs.Loads.Steps.{records_none, records_more}
 
@@ -30,7 +30,7 @@ pub record WasAdded {A : Type 0} (word_of : A → ℕ) (Fits : A → Type 0) (Ta
 pub record WereAdded {A : Type 0} (word_of : A → ℕ) (Fits : A → Type 0) (Taken : Content → A → Type 0) (put : Content → A → Content) (c d : Content) (n : ℕ) (bs : List ℕ) : Type 0 where
   pub entries : List A
   pub count : length entries ≡ n
-  pub laid : bs ≡ each_written (λ x. in_bytes 8 (word_of x)) entries ++ drop (8 * n) bs
+  pub laid : bs ≡ flat_map (λ x. in_bytes 8 (word_of x)) entries ++ drop (8 * n) bs
   pub run : Run Fits Taken put c entries d
 
 -- one more record was put on the board
@@ -57,15 +57,15 @@ then_others {word_of = word_of} {Fits = Fits} {Taken = Taken} {put = put} c next
     record {
       entries = first.entry ∷ others.entries;
       count = ap suc others.count;
-      laid = laid_more bs (word_of first.entry) (each_written (λ x. in_bytes 8 (word_of x)) others.entries) n (bytes_word8 bs long e) first.is others.laid;
+      laid = laid_more bs (word_of first.entry) (flat_map (λ x. in_bytes 8 (word_of x)) others.entries) n (bytes_word8 bs long e) first.is others.laid;
       run = (first.fits, first.taken, subst (λ (x : Content). Run Fits Taken put x others.entries d) (sym first.after) others.run);
     }
 
 module _ {A : Type 0} (add : Content → ℕ → Result Content FileRefusal) (word_of : A → ℕ) (Fits : A → Type 0) (Taken : Content → A → Type 0) (put : Content → A → Content) (small : (x : A) → Fits x → word_of x < 2 ^ 64) (forth : (c : Content) (x : A) → Fits x → Taken c x → add c (word_of x) ≡ Ok (put c x)) (back : (c d : Content) (w : ℕ) → w < 2 ^ 64 → add c w ≡ Ok d → WasAdded word_of Fits Taken put c d w) where
-  pub records_run : (xs : List A) (rest : List ℕ) (place : ℕ) (c d : Content) → Run Fits Taken put c xs d → records add (length xs) (each_written (λ x. in_bytes 8 (word_of x)) xs ++ rest) place c ≡ Ok d
+  pub records_run : (xs : List A) (rest : List ℕ) (place : ℕ) (c d : Content) → Run Fits Taken put c xs d → records add (length xs) (flat_map (λ x. in_bytes 8 (word_of x)) xs ++ rest) place c ≡ Ok d
   records_run [] rest place c d r = records_none add rest place c ∙ ap Ok (sym r)
   records_run (x ∷ xs) rest place c d (fits, taken, r) =
-      let tail = each_written (λ y. in_bytes 8 (word_of y)) xs ++ rest in
+      let tail = flat_map (λ y. in_bytes 8 (word_of y)) xs ++ rest in
       let w = word8_bytes (word_of x) tail (small x fits) in
       let long = le-ltb (length (in_bytes 8 (word_of x) ++ tail)) 8 (omega arith) in
       records_more add (in_bytes 8 (word_of x) ++ tail) place c (suc (length xs)) (length xs) (put c x) (omega arith) (rw long (sym (ap (add c) w ∙ forth c x fits taken)))

@@ -3,7 +3,7 @@ use Rattle.std.proofs.Common.{◌≡◌, ℕ, ◌+◌, ◌-◌, ◌*◌, ◌<◌
 use Rattle.std.proofs.lemmas.List.{length-take, drop_all, nil_from_length, length-map}
 use Rattle.std.proofs.lemmas.Bool.{le-ltb}
 use Rattle.std.proofs.lemmas.Bool.Decides.{nat_tests}
-use Rattle.std.specs.List.{AllByRecursion}
+use Rattle.std.specs.List.{flat_map, AllByRecursion}
 use Rattle.costs.specs.Meaning.{Meaning}
 use Rattle.board.specs.declared.row.Row.{Row}
 use Rattle.board.specs.declared.row.Line.{Line}
@@ -15,7 +15,7 @@ use Rattle.file.specs.Parts.{Piece, fault_at}
 use Rattle.file.specs.Sections.{rows_code, lines_code, note_code, next_section, past}
 use Rattle.file.specs.Records.{go_on, trusted_line, row_record, line_record, records}
 use Rattle.file.specs.Load.{Loaded, loaded_as, with_content, section_added, at_end, from_note, from_lines, from_rows}
-use Rattle.file.specs.Layout.{held_in, in_bytes, head_word, row_bytes, line_bytes, one_byte, each_written, section_written, sections_written, Byte, RowLimits, LineLimits}
+use Rattle.file.specs.Layout.{held_in, in_bytes, head_word, row_bytes, line_bytes, one_byte, section_written, sections_written, Byte, RowLimits, LineLimits}
 use Rattle.file.proofs.Loads.Bytes.{each_take, each_drop}
 use Rattle.file.proofs.Loads.Words.{count_below}
 use Rattle.file.proofs.Loads.Turns.{passes_note, passes_lines, passes_rows, takes_note, takes_lines, takes_rows}
@@ -48,11 +48,11 @@ pub record Tail (m : Meaning) (trust : ℕ) (rows : Option (List Row)) (lines : 
   pub noted : y.note ≡ put_note note (p.place + length p.bytes) x.note
 
 -- the bytes of a section's body
-pub each_length : {A : Type 0} (f : A → List ℕ) → ((x : A) → length (f x) ≡ 8) → (xs : List A) → length (each_written f xs) ≡ 8 * length xs
+pub each_length : {A : Type 0} (f : A → List ℕ) → ((x : A) → length (f x) ≡ 8) → (xs : List A) → length (flat_map f xs) ≡ 8 * length xs
 each_length f h [] = refl
-each_length f h (x ∷ xs) = length-append (f x) (each_written f xs) ∙ omega (arith, h x, each_length f h xs)
+each_length f h (x ∷ xs) = length-append (f x) (flat_map f xs) ∙ omega (arith, h x, each_length f h xs)
 
-pub bytes_written : (bs : List ℕ) → each_written one_byte bs ≡ bs
+pub bytes_written : (bs : List ℕ) → flat_map one_byte bs ≡ bs
 bytes_written [] = refl
 bytes_written (b ∷ bs) = ap (λ (xs : List ℕ). b ∷ xs) (bytes_written bs)
 
@@ -149,10 +149,10 @@ module _ (m : Meaning) (trust : ℕ) where
       ]
 
   -- lines are left, and what follows them
-  lines_made : (p : Piece) (x y : Loaded) (ls : List Line) (note : Option (List ℕ)) → length x.content.rows ≤ 128 → length x.content.lines + length ls ≤ 128 → AllByRecursion (LineLimits m x.content.moments trust) ls → 2 ≤ length p.bytes → p.bytes ≡ in_bytes 2 (head_word lines_code (length ls)) ++ (each_written line_bytes ls ++ (past p).bytes) → Tail m trust None None note (past p) (loaded_as (with_lines m trust x.content ls) x.note) y → Tail m trust None (Some ls) note p x y
+  lines_made : (p : Piece) (x y : Loaded) (ls : List Line) (note : Option (List ℕ)) → length x.content.rows ≤ 128 → length x.content.lines + length ls ≤ 128 → AllByRecursion (LineLimits m x.content.moments trust) ls → 2 ≤ length p.bytes → p.bytes ≡ in_bytes 2 (head_word lines_code (length ls)) ++ (flat_map line_bytes ls ++ (past p).bytes) → Tail m trust None None note (past p) (loaded_as (with_lines m trust x.content ls) x.note) y → Tail m trust None (Some ls) note p x y
   lines_made p x y ls note few_rows few_lines keep long laid t =
       record {
-        laid = laid ∙ ap (λ (ys : List ℕ). in_bytes 2 (head_word lines_code (length ls)) ++ (each_written line_bytes ls ++ ys)) t.laid;
+        laid = laid ∙ ap (λ (ys : List ℕ). in_bytes 2 (head_word lines_code (length ls)) ++ (flat_map line_bytes ls ++ ys)) t.laid;
         few_rows = omega arith;
         rows_keep = tt;
         few_lines = few_lines;
@@ -171,9 +171,9 @@ module _ (m : Meaning) (trust : ℕ) where
       let same : v ≡ loaded_as after x.note = cc in
       let few : length after.lines ≤ 128 = rw (length-append x.content.lines (map (trusted_line m trust) ls), length-map ls (trusted_line m trust)) r.few in
       let t = note_tail (past p) (loaded_as after x.note) y (each_drop _ (drop 2 p.bytes) (each_drop 2 p.bytes e)) few_rows few (subst (λ (z : Loaded). from_note m trust (past p) z ≡ Ok y) same h) in
-      let body = whole_body (8 * n) (drop 2 p.bytes) (each_written line_bytes ls) r.laid in
-      let laid = laid_section p.bytes lines_code (length ls) (8 * n) (each_written line_bytes ls) long e is r.count body in
-      let rest = ap (λ (ys : List ℕ). in_bytes 2 (head_word lines_code (length ls)) ++ (each_written line_bytes ls ++ ys)) (sym (past_records m trust p x lines_code is refl)) in
+      let body = whole_body (8 * n) (drop 2 p.bytes) (flat_map line_bytes ls) r.laid in
+      let laid = laid_section p.bytes lines_code (length ls) (8 * n) (flat_map line_bytes ls) long e is r.count body in
+      let rest = ap (λ (ys : List ℕ). in_bytes 2 (head_word lines_code (length ls)) ++ (flat_map line_bytes ls ++ ys)) (sym (past_records m trust p x lines_code is refl)) in
       (Some ls, t.0, lines_made p x y ls t.0 few_rows r.few r.keep long (laid ∙ rest) t.1)
 
   lines_left : (p : Piece) (x y : Loaded) → AllByRecursion Byte p.bytes → length x.content.rows ≤ 128 → length x.content.lines ≤ 128 → 2 ≤ length p.bytes → head_code p.bytes ≡ lines_code → go_on (section_added m trust (next_section p) x) (from_note m trust (past p)) ≡ Ok y → (lines : Option (List Line)) × (note : Option (List ℕ)) × Tail m trust None lines note p x y
@@ -193,10 +193,10 @@ module _ (m : Meaning) (trust : ℕ) where
       ]
 
   -- rows are left, and what follows them
-  rows_made : (p : Piece) (x y : Loaded) (rs : List Row) (lines : Option (List Line)) (note : Option (List ℕ)) → length x.content.rows + length rs ≤ 128 → AllByRecursion (RowLimits m x.content.modes) rs → 2 ≤ length p.bytes → p.bytes ≡ in_bytes 2 (head_word rows_code (length rs)) ++ (each_written row_bytes rs ++ (past p).bytes) → Tail m trust None lines note (past p) (loaded_as (with_rows x.content rs) x.note) y → Tail m trust (Some rs) lines note p x y
+  rows_made : (p : Piece) (x y : Loaded) (rs : List Row) (lines : Option (List Line)) (note : Option (List ℕ)) → length x.content.rows + length rs ≤ 128 → AllByRecursion (RowLimits m x.content.modes) rs → 2 ≤ length p.bytes → p.bytes ≡ in_bytes 2 (head_word rows_code (length rs)) ++ (flat_map row_bytes rs ++ (past p).bytes) → Tail m trust None lines note (past p) (loaded_as (with_rows x.content rs) x.note) y → Tail m trust (Some rs) lines note p x y
   rows_made p x y rs lines note few_rows keep long laid t =
       record {
-        laid = laid ∙ ap (λ (ys : List ℕ). in_bytes 2 (head_word rows_code (length rs)) ++ (each_written row_bytes rs ++ ys)) t.laid;
+        laid = laid ∙ ap (λ (ys : List ℕ). in_bytes 2 (head_word rows_code (length rs)) ++ (flat_map row_bytes rs ++ ys)) t.laid;
         few_rows = few_rows;
         rows_keep = keep;
         few_lines = t.few_lines;
@@ -215,9 +215,9 @@ module _ (m : Meaning) (trust : ℕ) where
       let same : v ≡ loaded_as after x.note = cc in
       let few : length after.rows ≤ 128 = rw (length-append x.content.rows rs) r.few in
       let t = lines_tail (past p) (loaded_as after x.note) y (each_drop _ (drop 2 p.bytes) (each_drop 2 p.bytes e)) few few_lines (subst (λ (z : Loaded). from_lines m trust (past p) z ≡ Ok y) same h) in
-      let body = whole_body (8 * n) (drop 2 p.bytes) (each_written row_bytes rs) r.laid in
-      let laid = laid_section p.bytes rows_code (length rs) (8 * n) (each_written row_bytes rs) long e is r.count body in
-      let rest = ap (λ (ys : List ℕ). in_bytes 2 (head_word rows_code (length rs)) ++ (each_written row_bytes rs ++ ys)) (sym (past_records m trust p x rows_code is refl)) in
+      let body = whole_body (8 * n) (drop 2 p.bytes) (flat_map row_bytes rs) r.laid in
+      let laid = laid_section p.bytes rows_code (length rs) (8 * n) (flat_map row_bytes rs) long e is r.count body in
+      let rest = ap (λ (ys : List ℕ). in_bytes 2 (head_word rows_code (length rs)) ++ (flat_map row_bytes rs ++ ys)) (sym (past_records m trust p x rows_code is refl)) in
       (Some rs, t.0, t.1, rows_made p x y rs t.0 t.1 r.few r.keep long (laid ∙ rest) t.2)
 
   rows_left : (p : Piece) (x y : Loaded) → AllByRecursion Byte p.bytes → length x.content.rows ≤ 128 → length x.content.lines ≤ 128 → 2 ≤ length p.bytes → head_code p.bytes ≡ rows_code → go_on (section_added m trust (next_section p) x) (from_lines m trust (past p)) ≡ Ok y → (rows : Option (List Row)) × (lines : Option (List Line)) × (note : Option (List ℕ)) × Tail m trust rows lines note p x y
@@ -240,7 +240,7 @@ module _ (m : Meaning) (trust : ℕ) where
 pub not_next : {A : Type 0} (k code : ℕ) (f : A → List ℕ) (o : Option (List A)) (bs rest : List ℕ) → code < 16 → (code ≡ k → ⊥) → length (held_in o) < 4096 → bs ≡ section_written code f o ++ rest → (o ≡ None → (length rest < 2) ⊎ (head_code rest ≡ k → ⊥)) → (length bs < 2) ⊎ (head_code bs ≡ k → ⊥)
 not_next k code f None bs rest small other few laid h = subst (λ (ys : List ℕ). (length ys < 2) ⊎ (head_code ys ≡ k → ⊥)) (sym laid) (h refl)
 not_next k code f (Some xs) bs rest small other few laid h =
-    let a = head_at bs code (length xs) (length (each_written f xs)) (each_written f xs) rest small few refl laid in
+    let a = head_at bs code (length xs) (length (flat_map f xs)) (flat_map f xs) rest small few refl laid in
     inr (λ e. other (sym a.its_code ∙ e))
 
 -- From the layout to what is accepted.
@@ -254,16 +254,16 @@ module _ (m : Meaning) (trust : ℕ) (p : Piece) (x : Loaded) where
       let whole = le-ltb (length bs) (length bs) (omega arith) in
       note_section m trust p x a.its_code ∙ rw (a.its_count, a.its_body, whole)
 
-  pub adds_lines : (ls : List Line) (rest : List ℕ) → length x.content.lines + length ls ≤ 128 → AllByRecursion (LineLimits m x.content.moments trust) ls → HeadAt p.bytes lines_code (length ls) (8 * length ls) (each_written line_bytes ls) rest → section_added m trust (next_section p) x ≡ Ok (loaded_as (with_lines m trust x.content ls) x.note)
+  pub adds_lines : (ls : List Line) (rest : List ℕ) → length x.content.lines + length ls ≤ 128 → AllByRecursion (LineLimits m x.content.moments trust) ls → HeadAt p.bytes lines_code (length ls) (8 * length ls) (flat_map line_bytes ls) rest → section_added m trust (next_section p) x ≡ Ok (loaded_as (with_lines m trust x.content ls) x.note)
   adds_lines ls rest few keep a =
       let r = lines_forth m trust ls [] (p.place + 2) x.content few keep in
-      let body = append-nil (each_written line_bytes ls) in
+      let body = append-nil (flat_map line_bytes ls) in
       lines_section m trust p x a.its_code ∙ rw (a.its_count, a.its_body, ← body, r)
 
-  pub adds_rows : (rs : List Row) (rest : List ℕ) → length x.content.rows + length rs ≤ 128 → AllByRecursion (RowLimits m x.content.modes) rs → HeadAt p.bytes rows_code (length rs) (8 * length rs) (each_written row_bytes rs) rest → section_added m trust (next_section p) x ≡ Ok (loaded_as (with_rows x.content rs) x.note)
+  pub adds_rows : (rs : List Row) (rest : List ℕ) → length x.content.rows + length rs ≤ 128 → AllByRecursion (RowLimits m x.content.modes) rs → HeadAt p.bytes rows_code (length rs) (8 * length rs) (flat_map row_bytes rs) rest → section_added m trust (next_section p) x ≡ Ok (loaded_as (with_rows x.content rs) x.note)
   adds_rows rs rest few keep a =
       let r = rows_forth m trust rs [] (p.place + 2) x.content few keep in
-      let body = append-nil (each_written row_bytes rs) in
+      let body = append-nil (flat_map row_bytes rs) in
       rows_section m trust p x a.its_code ∙ rw (a.its_count, a.its_body, ← body, r)
 
   -- what follows such a section
@@ -294,11 +294,11 @@ module _ (m : Meaning) (trust : ℕ) where
       passes_lines m trust p x other ∙ note_accepted note p x y t
   lines_accepted (Some ls) note p x y t =
       let rest = section_written note_code one_byte note in
-      let a = head_at p.bytes lines_code (length ls) (8 * length ls) (each_written line_bytes ls) rest (omega arith) (omega (arith, t.few_lines)) (each_length line_bytes (λ l. refl) ls) t.laid in
+      let a = head_at p.bytes lines_code (length ls) (8 * length ls) (flat_map line_bytes ls) rest (omega arith) (omega (arith, t.few_lines)) (each_length line_bytes (λ l. refl) ls) t.laid in
       let after = with_lines m trust x.content ls in
       let few : length after.lines ≤ 128 = rw (length-append x.content.lines (map (trusted_line m trust) ls), length-map ls (trusted_line m trust)) t.few_lines in
       let on : Tail m trust None None note (past p) (loaded_as after x.note) y = record {
-        laid = records_rest m trust p x lines_code (length ls) (each_written line_bytes ls) rest refl a;
+        laid = records_rest m trust p x lines_code (length ls) (flat_map line_bytes ls) rest refl a;
         few_rows = t.few_rows;
         rows_keep = tt;
         few_lines = omega (arith, few);
@@ -319,11 +319,11 @@ module _ (m : Meaning) (trust : ℕ) where
       passes_rows m trust p x other ∙ lines_accepted lines note p x y t
   rows_accepted (Some rs) lines note p x y t =
       let rest = section_written lines_code line_bytes lines ++ section_written note_code one_byte note in
-      let a = head_at p.bytes rows_code (length rs) (8 * length rs) (each_written row_bytes rs) rest (omega arith) (omega (arith, t.few_rows)) (each_length row_bytes (λ r. refl) rs) t.laid in
+      let a = head_at p.bytes rows_code (length rs) (8 * length rs) (flat_map row_bytes rs) rest (omega arith) (omega (arith, t.few_rows)) (each_length row_bytes (λ r. refl) rs) t.laid in
       let after = with_rows x.content rs in
       let few : length after.rows ≤ 128 = rw (length-append x.content.rows rs) t.few_rows in
       let on : Tail m trust None lines note (past p) (loaded_as after x.note) y = record {
-        laid = records_rest m trust p x rows_code (length rs) (each_written row_bytes rs) rest refl a;
+        laid = records_rest m trust p x rows_code (length rs) (flat_map row_bytes rs) rest refl a;
         few_rows = omega (arith, few);
         rows_keep = tt;
         few_lines = t.few_lines;

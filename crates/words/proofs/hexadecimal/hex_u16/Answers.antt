@@ -1,6 +1,6 @@
 use Rattle.std.proofs.Common.{◌≤◌, length, get_or, sym, ◌∙◌, arith, false-eqb}
 use Rattle.words.proofs.HexDigits.{digit_below, fits_digit, hex_stop, hex_whole}
-use Rattle.words.proofs.hex.hex_u16.Goals as goal
+use Rattle.words.proofs.hexadecimal.hex_u16.Goals as goal
 
 pub overflow_mul-n : goal.overflow_mul-n
 overflow_mul-n c = omega (arith, fits_digit c.loop-byte.n c.loop-byte.byte-index c.loop-byte.invariant.0 (omega arith))
