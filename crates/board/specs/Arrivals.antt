@@ -65,18 +65,18 @@ abbrev pub starts_at : ℕ → Named → Place → Bool
 starts_at moments n p = mode p == n.row.from && starts_then moments n.row n.line (moment p)
 
 -- where a row with this line leads from there, at what cost, and what it does to the brackets
-abbrev pub leads_by : Meaning → Row → Option Line → Place → Arrival
-leads_by m r None p = record { to = (r.to, moment p); cost = r.cost; effect = effect r }
-leads_by m r (Some l) p = record { to = (r.to, l.to); cost = m.join r.cost l.cost; effect = effect r }
+abbrev pub arrival_by_row : Meaning → Row → Option Line → Place → Arrival
+arrival_by_row m r None p = record { to = (r.to, moment p); cost = r.cost; effect = effect r }
+arrival_by_row m r (Some l) p = record { to = (r.to, l.to); cost = m.join r.cost l.cost; effect = effect r }
 
 -- where what is named leads
-abbrev pub leads : Meaning → Named → Place → Arrival
-leads m n p = leads_by m n.row n.line p
+abbrev pub arrival_by : Meaning → Named → Place → Arrival
+arrival_by m n p = arrival_by_row m n.row n.line p
 
 -- where what is named leads from the place, if it starts there
 abbrev pub arrival_of : Meaning → ℕ → Option Named → Place → Option Arrival
 arrival_of m moments None p = None
-arrival_of m moments (Some n) p = cond (starts_at moments n p) (Some (leads m n p)) None
+arrival_of m moments (Some n) p = cond (starts_at moments n p) (Some (arrival_by m n p)) None
 
 -- where the move v leads from p on a content
 abbrev pub arrival_on : Meaning → Content → Move → Place → Option Arrival

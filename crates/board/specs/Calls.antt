@@ -1,20 +1,21 @@
 -- What each call on a draft answers, and what it makes of the content.
 use Rattle.std.specs.Prelude.{ℕ, zero, suc, ◌*◌, Bool, not, ◌||◌, List, [], ◌∷◌, ◌++◌, length, Option, ◌==◌, nat_le, nat_lt}
 use Rattle.costs.specs.Meaning.{Meaning}
+use Rattle.board.specs.Bounds.{most_places, most_rows, most_lines}
 use Rattle.board.specs.declared.row.Row.{Row}
 use Rattle.board.specs.declared.row.Line.{Line}
 use Rattle.board.specs.declared.refusal.Refusal.{Refusal}
-use Rattle.board.specs.declared.refusal.Refusal.TheVariants.{NotEmpty, SizeOut, RowsFull, ModeOut, BadRow, LinesFull, MomentOut, NoEvent, NoSuch, NoCost}
-use Rattle.board.specs.Refusals.{first, unless}
+use Rattle.board.specs.declared.refusal.Refusal.TheVariants.{NotEmpty, SizeOut, RowsFull, ModeOut, BadRow, LinesFull, MomentOut, NoEvent, NoSuch, NotACost}
+use Rattle.board.specs.Refusals.{first_fault, unless}
 use Rattle.board.specs.Rows.{formed}
 use Rattle.board.specs.Content.{Content, new, Sound}
 
 -- Why size is declined: a row or a line is held (1); M times T is 0 or above 64 (2).
 abbrev pub size_fault : Content → ℕ → ℕ → Option Refusal
 size_fault c modes moments =
-    first
+    first_fault
     (((not (length c.rows == 0) || not (length c.lines == 0)), NotEmpty)
-    ∷ ((modes * moments == 0 || nat_lt 64 (modes * moments)), SizeOut)
+    ∷ ((modes * moments == 0 || nat_lt most_places (modes * moments)), SizeOut)
     ∷ [])
 
 -- the content with this size
@@ -28,11 +29,11 @@ size_after c modes moments = unless (size_fault c modes moments) (with_size c mo
 -- Why a row is declined: 128 are held (3); a mode is not below M (4); the row is not formed (5); its cost is none (10).
 abbrev pub row_fault : Meaning → Content → Row → Option Refusal
 row_fault m c r =
-    first
-    ((nat_le 128 (length c.rows), RowsFull)
+    first_fault
+    ((nat_le most_rows (length c.rows), RowsFull)
     ∷ ((nat_le c.modes r.from || nat_le c.modes r.to), ModeOut)
     ∷ (not (formed r.kind r), BadRow)
-    ∷ (not (m.is_cost r.cost), NoCost)
+    ∷ (not (m.is_cost r.cost), NotACost)
     ∷ [])
 
 -- the content with this row last
@@ -48,12 +49,12 @@ abbrev pub line_faults : Meaning → ℕ → Line → List (Bool × Refusal)
 line_faults m moments l =
     ((nat_le moments l.from || nat_le moments l.to), MomentOut)
     ∷ ((l.event == 0), NoEvent)
-    ∷ (not (m.is_cost l.cost), NoCost)
+    ∷ (not (m.is_cost l.cost), NotACost)
     ∷ []
 
 -- Why a line is declined: 128 are held (6), or the first of its own faults.
 abbrev pub line_fault : Meaning → Content → Line → Option Refusal
-line_fault m c l = first ((nat_le 128 (length c.lines), LinesFull) ∷ line_faults m c.moments l)
+line_fault m c l = first_fault ((nat_le most_lines (length c.lines), LinesFull) ∷ line_faults m c.moments l)
 
 -- the content with this line last
 abbrev pub with_line : Content → Line → Content
@@ -65,7 +66,7 @@ line_after m c l = unless (line_fault m c l) (with_line c l) c
 
 -- Why repricing row or line i is declined: there is none (9); the cost is none (10).
 abbrev pub reprice_fault : {A : Type 0} → Meaning → List A → ℕ → ℕ → Option Refusal
-reprice_fault m xs i cost = first ((nat_le (length xs) i, NoSuch) ∷ (not (m.is_cost cost), NoCost) ∷ [])
+reprice_fault m xs i cost = first_fault ((nat_le (length xs) i, NoSuch) ∷ (not (m.is_cost cost), NotACost) ∷ [])
 
 -- the element at i changed by f, and every other as it was
 abbrev pub changed : {A : Type 0} → (A → A) → List A → ℕ → List A

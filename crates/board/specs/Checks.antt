@@ -1,6 +1,7 @@
 -- Checking a list of packed moves, move by move.
 use Rattle.std.specs.Prelude.{ℕ, suc, Bool, false, cond, not, ◌||◌, List, [], ◌∷◌, length, Some, None, Ok, Err, Option, Result, ◌==◌, nat_lt}
 use Rattle.costs.specs.Meaning.{Meaning}
+use Rattle.board.specs.Bounds.{most_open}
 use Rattle.board.specs.declared.moves.Move.{Move}
 use Rattle.board.specs.declared.moves.Effect.{Effect}
 use Rattle.board.specs.declared.moves.Effect.TheVariants.{Quiet, Opens, Closes, Ends}
@@ -11,14 +12,14 @@ use Rattle.board.specs.declared.refusal.Refusal.TheVariants.{BadMove, NotNext, B
 use Rattle.board.specs.declared.check.Fault.{Fault}
 use Rattle.board.specs.Content.{Content}
 use Rattle.board.specs.Moves.{Place, origin, is_end}
-use Rattle.board.specs.Arrivals.{named, starts_at, leads}
+use Rattle.board.specs.Arrivals.{named, starts_at, arrival_by}
 use Rattle.board.specs.Packing.{unpacked}
 
 -- the brackets open after one effect, the last one first: at most 4,096 (else 18); what closes closes the last one, and an
 -- end row comes only where none is open (else 17)
 abbrev pub bracketed : Effect → List ℕ → Result (List ℕ) Refusal
 bracketed Quiet st = Ok st
-bracketed (Opens n) st = cond (nat_lt (length st) 4096) (Ok (n ∷ st)) (Err TooDeep)
+bracketed (Opens n) st = cond (nat_lt (length st) most_open) (Ok (n ∷ st)) (Err TooDeep)
 bracketed (Closes n) [] = Err BadBracket
 bracketed (Closes n) (x ∷ st) = cond (x == n) (Ok st) (Err BadBracket)
 bracketed Ends [] = Ok []
@@ -33,8 +34,8 @@ pub record Progress : Type 0 where
   pub cost : ℕ
 
 -- before the first move: at place 0, no bracket open, nothing joined
-abbrev pub start : Meaning → Progress
-start m = record { place = origin; unclosed = []; ended = false; cost = m.free }
+abbrev pub before_moves : Meaning → Progress
+before_moves m = record { place = origin; unclosed = []; ended = false; cost = m.free }
 
 -- after a move that leads to a, with these brackets open then, or refused for its brackets
 abbrev pub arrived : Meaning → ℕ → Arrival → Result (List ℕ) Refusal → Result Progress Refusal
@@ -48,7 +49,7 @@ take_named m moments w None = Err BadMove
 take_named m moments w (Some n) =
     cond (w.ended || not (starts_at moments n w.place))
     (Err NotNext)
-    (arrived m w.cost (leads m n w.place) (bracketed (leads m n w.place).effect w.unclosed))
+    (arrived m w.cost (arrival_by m n w.place) (bracketed (arrival_by m n w.place).effect w.unclosed))
 
 -- what a packed move names: nothing where the number breaks the packing
 abbrev pub named_by_number : Content → Option Move → Option Named
@@ -72,4 +73,4 @@ checked_from m c w i (x ∷ xs) = or_fault i (take_move m c w x) (λ v. checked_
 
 -- Check: the cost of the complete reading that the packed moves are, or the first faulty move.
 abbrev pub check_answer : Meaning → Content → List ℕ → Result ℕ Fault
-check_answer m c xs = checked_from m c (start m) 0 xs
+check_answer m c xs = checked_from m c (before_moves m) 0 xs

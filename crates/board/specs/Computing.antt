@@ -192,5 +192,5 @@ best_rows m c log zero = None
 best_rows m c log (suc n) = best_moments m c log n (mode_left (move_row c n)) c.moments (best_rows m c log n)
 
 -- the recorded reading of a log, if it has one
-unfoldable pub found : Meaning → Content → List Record → Option ReadingFound
-found m c log = best_rows m c log (length c.rows)
+unfoldable pub recorded_reading : Meaning → Content → List Record → Option ReadingFound
+recorded_reading m c log = best_rows m c log (length c.rows)

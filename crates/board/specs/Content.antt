@@ -2,6 +2,7 @@
 use Rattle.std.specs.Prelude.{◌≡◌, ℕ, ◌*◌, ◌<◌, ◌≤◌, true, List, [], length, Some}
 use Rattle.std.specs.List.{slice_get}
 use Rattle.costs.specs.Meaning.{Meaning, Cost}
+use Rattle.board.specs.Bounds.{most_places, most_rows, most_lines}
 use Rattle.board.specs.declared.row.Row.{Row}
 use Rattle.board.specs.declared.row.Line.{Line}
 use Rattle.board.specs.Rows.{formed}
@@ -39,8 +40,8 @@ pub record SoundLine (m : Meaning) (c : Content) (l : Line) : Type 0 where
 pub record Sound (m : Meaning) (c : Content) : Type 0 where
   pub some_mode : 0 < c.modes
   pub some_moment : 0 < c.moments
-  pub few_places : c.modes * c.moments ≤ 64
-  pub few_rows : length c.rows ≤ 128
-  pub few_lines : length c.lines ≤ 128
+  pub few_places : c.modes * c.moments ≤ most_places
+  pub few_rows : length c.rows ≤ most_rows
+  pub few_lines : length c.lines ≤ most_lines
   pub sound_rows : (i : ℕ) (r : Row) → slice_get c.rows i ≡ Some r → SoundRow m c r
   pub sound_lines : (i : ℕ) (l : Line) → slice_get c.lines i ≡ Some l → SoundLine m c l

@@ -8,7 +8,7 @@ use Rattle.board.specs.declared.row.Line.{Line}
 use Rattle.board.specs.declared.moves.Move.{Move}
 use Rattle.board.specs.Content.{Content}
 use Rattle.board.specs.Settling.{bare}
-use Rattle.board.specs.Computing.{settled_log, found}
+use Rattle.board.specs.Computing.{settled_log, recorded_reading}
 
 -- a row by its kind, modes, label, action and cost
 abbrev pub row : RowKind → ℕ → ℕ → ℕ → ℕ → ℕ → Row
@@ -45,4 +45,4 @@ pub record SettlingExamples : Type 0 where
   -- the nine places and eight rounds
   pub flight_log : length (settled_log points flight) ≡ 17
   -- the reading at cost 9: open, the first line, close, the second line, end
-  pub flight_reading : found points flight (settled_log points flight) ≡ Some (record { row = 5; cost = 9; moves = flight_moves })
+  pub flight_reading : recorded_reading points flight (settled_log points flight) ≡ Some (record { row = 5; cost = 9; moves = flight_moves })

@@ -2,6 +2,7 @@
 use Rattle.std.specs.Prelude.{◌≡◌, ℕ, ◌⊎◌, ◌↔◌, List, [], ◌∷◌, map, length, take, Some, Err, Result}
 use Rattle.std.specs.List.{slice_get}
 use Rattle.costs.specs.Meaning.{Meaning}
+use Rattle.board.specs.Bounds.{most_open}
 use Rattle.board.specs.declared.moves.Move.{Move}
 use Rattle.board.specs.declared.moves.Effect.{Effect}
 use Rattle.board.specs.declared.moves.Effect.TheVariants.{Opens, Closes, Ends}
@@ -58,7 +59,7 @@ pub data Refused (m : Meaning) (c : Content) (before : List ℕ) (x : ℕ) : Ref
   -- 17: it ends while a bracket is open
   bad_end : (w : Underway m c before) → GoesFrom m c x w.reached Ends → (w.unclosed ≡ [] → ⊥) → Refused m c before x BadBracket
   -- 18: it opens a bracket while 4,096 are open
-  too_deep : {n : ℕ} (w : Underway m c before) → GoesFrom m c x w.reached (Opens n) → length w.unclosed ≡ 4096 → Refused m c before x TooDeep
+  too_deep : {n : ℕ} (w : Underway m c before) → GoesFrom m c x w.reached (Opens n) → length w.unclosed ≡ most_open → Refused m c before x TooDeep
 
 -- The list is at fault at the index i, for this reason:
 pub data FirstFault (m : Meaning) (c : Content) (xs : List ℕ) (i : ℕ) : Refusal → Type 0 where

@@ -1,5 +1,6 @@
 -- What a reader must believe: a board's content, what the calls on a draft refuse and make of it, and what holds of it then;
 pub mod Rows
+pub mod Bounds
 pub mod Content
 pub mod Held
 pub mod Refusals

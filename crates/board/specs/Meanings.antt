@@ -1,6 +1,7 @@
 -- What the answers of a settled board mean.
 use Rattle.std.specs.Prelude.{◌≡◌, ℕ, ◌<◌, ◌≤◌, min, ◌⊎◌, List, ◌++◌, map, length, drop, Ok, Err, Result}
 use Rattle.costs.specs.Meaning.{Meaning, NoDearer}
+use Rattle.board.specs.Bounds.{many_moves, most_written}
 use Rattle.board.specs.declared.moves.Move.{Move}
 use Rattle.board.specs.declared.refusal.Refusal.{Refusal}
 use Rattle.board.specs.declared.refusal.Refusal.TheVariants.{NoReading, TooLong, PlaceOut, Unsettled}
@@ -19,7 +20,7 @@ pub record CheapestReading (m : Meaning) (c : Content) (log : List Record) (k n 
   pub recorded : RecordedReading m c log k reading
   pub complete : Complete m c reading k
   pub below : Cheaper m k m.worst
-  pub number : n ≡ min (length reading) 65536
+  pub number : n ≡ min (length reading) many_moves
   pub cheapest : (other : List Move) (x : ℕ) → Complete m c other x → NoDearer m k x
 
 -- what the cost question's answer means: the cheapest complete reading, or that none costs less than the worst
@@ -37,7 +38,7 @@ pub record Written (m : Meaning) (c : Content) (log : List Record) (buffer : Lis
   pub complete : Complete m c reading cost
   pub cheapest : (other : List Move) (x : ℕ) → Complete m c other x → NoDearer m cost x
   pub room : n ≤ length buffer
-  pub few : n ≤ 65535
+  pub few : n ≤ most_written
   pub number : n ≡ length reading
   pub written : after ≡ map packed reading ++ drop n buffer
   pub checked : check_answer m c (map packed reading) ≡ Ok cost
@@ -47,7 +48,7 @@ pub record ReadingTooLong (m : Meaning) (c : Content) (log : List Record) (buffe
   pub cost : ℕ
   pub reading : List Move
   pub recorded : RecordedReading m c log cost reading
-  pub longer : (length buffer < length reading) ⊎ (65535 < length reading)
+  pub longer : (length buffer < length reading) ⊎ (most_written < length reading)
 
 -- why path is declined
 abbrev pub PathDeclined : Meaning → Content → List Record → List ℕ → Refusal → Type 0

@@ -49,8 +49,8 @@ pub record Plainly (m : Meaning) (c : Content) (v : Move) (p k : ℕ) : Type 0 w
   pub at : p ≡ pair_of c place exit
 
 -- any move without brackets
-abbrev pub Plain : Meaning → Content → Costing
-Plain m c p k = (v : Move) × Plainly m c v p k
+abbrev pub PlainLink : Meaning → Content → Costing
+PlainLink m c p k = (v : Move) × Plainly m c v p k
 
 -- the move v without brackets from the place
 pub record PlainlyFrom (m : Meaning) (c : Content) (v : Move) (place : Place) (p k : ℕ) : Type 0 where
@@ -72,7 +72,7 @@ PlainlyAlong m c row r j p k = (w : Line) × (slice_get c.lines j ≡ Some w) ×
 
 -- a link: what a record can go on by, a move without brackets or an entry between brackets
 abbrev pub Link : Meaning → Content → Log → Costing
-Link m c l p k = Plain m c p k ⊎ Bracketed m c l p k
+Link m c l p k = PlainLink m c p k ⊎ Bracketed m c l p k
 
 -- a candidate of the log for the pair p
 pub record CandidateAt (m : Meaning) (c : Content) (l : Log) (p k : ℕ) : Type 0 where

@@ -1,12 +1,13 @@
 -- What a settled board answers, from its content and its log.
 use Rattle.std.specs.Prelude.{ℕ, ◌*◌, min, Bool, cond, ◌&&◌, ◌||◌, List, ◌++◌, map, length, drop, Some, None, Ok, Err, Option, Result, nat_le}
 use Rattle.costs.specs.Meaning.{Meaning}
+use Rattle.board.specs.Bounds.{many_moves, most_written}
 use Rattle.board.specs.declared.refusal.Refusal.{Refusal}
 use Rattle.board.specs.declared.refusal.Refusal.TheVariants.{NoReading, TooLong, PlaceOut, Unsettled}
 use Rattle.board.specs.Content.{Content}
 use Rattle.board.specs.Packing.{packed}
 use Rattle.board.specs.Settling.{Record}
-use Rattle.board.specs.Computing.{record_between, ReadingFound, found}
+use Rattle.board.specs.Computing.{record_between, ReadingFound, recorded_reading}
 
 -- the cost of a pair's record, if it has one
 abbrev pub recorded_cost : Option Record → Result ℕ Refusal
@@ -21,15 +22,15 @@ between_answer c log s q =
 -- a reading's cost and number of moves, the number standing at 65,536 where it is more
 abbrev pub cost_told : Option ReadingFound → Result (ℕ × ℕ) Refusal
 cost_told None = Err NoReading
-cost_told (Some f) = Ok (f.cost, min (length f.moves) 65536)
+cost_told (Some f) = Ok (f.cost, min (length f.moves) many_moves)
 
 -- Cost: the recorded reading's cost and number of moves.
 abbrev pub cost_answer : Meaning → Content → List Record → Result (ℕ × ℕ) Refusal
-cost_answer m c log = cost_told (found m c log)
+cost_answer m c log = cost_told (recorded_reading m c log)
 
 -- whether the reading's moves are no more than the buffer holds, and no more than 65,535
 abbrev pub fits : ReadingFound → List ℕ → Bool
-fits f buffer = nat_le (length f.moves) (length buffer) && nat_le (length f.moves) 65535
+fits f buffer = nat_le (length f.moves) (length buffer) && nat_le (length f.moves) most_written
 
 -- what path answers: how many moves the recorded reading has, if it fits
 abbrev pub path_told : Option ReadingFound → List ℕ → Result ℕ Refusal
@@ -44,8 +45,8 @@ path_written (Some f) buffer = cond (fits f buffer) (map packed f.moves ++ drop 
 -- Path: writes the recorded reading's moves in order to the front of the buffer and answers how many, unless they are
 -- more than the buffer holds or than 65,535.
 abbrev pub path_answer : Meaning → Content → List Record → List ℕ → Result ℕ Refusal
-path_answer m c log buffer = path_told (found m c log) buffer
+path_answer m c log buffer = path_told (recorded_reading m c log) buffer
 
 -- the buffer after path
 abbrev pub path_after : Meaning → Content → List Record → List ℕ → List ℕ
-path_after m c log buffer = path_written (found m c log) buffer
+path_after m c log buffer = path_written (recorded_reading m c log) buffer

@@ -1,7 +1,7 @@
 -- The numbers of the refusals, and 'the first that applies'.
 use Rattle.std.specs.Prelude.{ℕ, Bool, cond, List, [], ◌∷◌, ◌++◌, Some, None, Ok, Err, codes, decimal, Option, Result}
 use Rattle.board.specs.declared.refusal.Refusal.{Refusal}
-use Rattle.board.specs.declared.refusal.Refusal.TheVariants.{NotEmpty, SizeOut, RowsFull, ModeOut, BadRow, LinesFull, MomentOut, NoEvent, NoSuch, NoCost, NoReading, TooLong, PlaceOut, Unsettled, BadMove, NotNext, BadBracket, TooDeep, NoEnd}
+use Rattle.board.specs.declared.refusal.Refusal.TheVariants.{NotEmpty, SizeOut, RowsFull, ModeOut, BadRow, LinesFull, MomentOut, NoEvent, NoSuch, NotACost, NoReading, TooLong, PlaceOut, Unsettled, BadMove, NotNext, BadBracket, TooDeep, NoEnd}
 use Rattle.board.specs.declared.check.Fault.{Fault}
 
 -- the number of each refusal
@@ -15,7 +15,7 @@ number LinesFull = 6
 number MomentOut = 7
 number NoEvent = 8
 number NoSuch = 9
-number NoCost = 10
+number NotACost = 10
 number NoReading = 11
 number TooLong = 12
 number PlaceOut = 13
@@ -27,9 +27,9 @@ number TooDeep = 18
 number NoEnd = 19
 
 -- the first refusal whose reason applies
-abbrev pub first : List (Bool × Refusal) → Option Refusal
-first [] = None
-first (r ∷ rs) = cond r.0 (Some r.1) (first rs)
+abbrev pub first_fault : List (Bool × Refusal) → Option Refusal
+first_fault [] = None
+first_fault (r ∷ rs) = cond r.0 (Some r.1) (first_fault rs)
 
 -- what a call answers: x, or the refusal where there is one
 abbrev pub answer : {X : Type 0} → Option Refusal → X → Result X Refusal

@@ -84,8 +84,8 @@ pub data Candidate (m : Meaning) (c : Content) (log : List Record) : Record → 
   call : (a b : Record) {o w : Move} {q : Place} {k l n : ℕ} → In a log → Transition m c o a.to b.from k (Opens n) → In b log → Transition m c w b.to q l (Closes n) → Candidate m c log (call_record m a o k b w l q)
 
 -- no record of the log goes from s to q
-abbrev pub Unsettled : List Record → Place → Place → Type 0
-Unsettled log s q = (a : Record) → In a log → a.from ≡ s → a.to ≢ q
+abbrev pub Unrecorded : List Record → Place → Place → Type 0
+Unrecorded log s q = (a : Record) → In a log → a.from ≡ s → a.to ≢ q
 
 -- the lexicographic order of lists of numbers; a list is no later than itself, and no later than one that it begins
 abbrev pub Lex : List ℕ → List ℕ → Type 0
@@ -116,9 +116,9 @@ Precedes m c x y = Cheaper m x.cost y.cost ⊎ ((x.cost ≡ y.cost) × Lex (key 
 -- if it is cheaper than the worst.
 pub record Round (m : Meaning) (c : Content) (log : List Record) (x : Record) : Type 0 where
   pub candidate : Candidate m c log x
-  pub unsettled : Unsettled log x.from x.to
+  pub unsettled : Unrecorded log x.from x.to
   pub below : Cheaper m x.cost m.worst
-  pub first : (y : Record) → Candidate m c log y → Unsettled log y.from y.to → Precedes m c x y
+  pub first : (y : Record) → Candidate m c log y → Unrecorded log y.from y.to → Precedes m c x y
 
 -- the log after so many rounds
 pub data Rounds (m : Meaning) (c : Content) : ℕ → List Record → Type 0 where
@@ -126,10 +126,10 @@ pub data Rounds (m : Meaning) (c : Content) : ℕ → List Record → Type 0 whe
   round : {n : ℕ} {log : List Record} {x : Record} → Rounds m c n log → Round m c log x → Rounds m c (suc n) (x ∷ log)
 
 -- The log after all rounds: no candidate for an unsettled pair is cheaper than the worst.
-pub record Settled (m : Meaning) (c : Content) (log : List Record) : Type 0 where
+pub record SettledLog (m : Meaning) (c : Content) (log : List Record) : Type 0 where
   pub rounds : ℕ
   pub reached : Rounds m c rounds log
-  pub done : (x : Record) → Candidate m c log x → Unsettled log x.from x.to → NoDearer m m.worst x.cost
+  pub done : (x : Record) → Candidate m c log x → Unrecorded log x.from x.to → NoDearer m m.worst x.cost
 
 -- The reading vs by the end row i at the cost k: the record from place 0 to the place of the end row, spelled out, and
 -- then the end row.
@@ -155,5 +155,5 @@ abbrev pub HasNoReading : Meaning → Content → List Record → Type 0
 HasNoReading m c log = (i n : ℕ) (ws : List Move) → ReadingBy m c log i n ws → NoDearer m m.worst n
 
 -- the answer: the cost of the recorded reading, or the worst where there is none
-abbrev pub Answer : Meaning → Content → List Record → ℕ → Type 0
-Answer m c log k = ((vs : List Move) × RecordedReading m c log k vs) ⊎ (HasNoReading m c log × (k ≡ m.worst))
+abbrev pub AnswersCost : Meaning → Content → List Record → ℕ → Type 0
+AnswersCost m c log k = ((vs : List Move) × RecordedReading m c log k vs) ⊎ (HasNoReading m c log × (k ≡ m.worst))

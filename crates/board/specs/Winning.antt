@@ -133,7 +133,7 @@ abbrev pub TightOf : {K : Type 0} {k : Ghosts K} → Meaning → Known K k → G
 TightOf m a g xs = Gathered (TightAt m (held a.tables.now) a.log.now g) 64 xs
 
 -- The rows o and w are an open row a and a close row b of one bracket, and b leads to where the goal ends.
-pub record Brackets (c : Content) (g : Goal) (o w : ℕ) (a b : Row) : Type 0 where
+pub record BracketRows (c : Content) (g : Goal) (o w : ℕ) (a b : Row) : Type 0 where
   pub opening : slice_get c.rows o ≡ Some a
   pub closing : slice_get c.rows w ≡ Some b
   pub opens : a.kind ≡ Open

@@ -1,7 +1,7 @@
 // How far a check has come.
 ghost use Rattle.std.specs.Prelude.{◌≡◌, [], Some};
 ghost use Rattle.board.specs.Held.{held};
-ghost use Rattle.board.specs.Checks.{bracketed, start, take_named, take_move};
+ghost use Rattle.board.specs.Checks.{bracketed, before_moves, take_named, take_move};
 ghost use Rattle.board.specs.Moves.{is_end};
 ghost use Rattle.board.specs.Checkers.{unclosed_of, progress_of, left};
 
@@ -78,7 +78,7 @@ impl Brackets {
 impl Checker {
     // At place 0, with no bracket open and nothing joined.
     pub(crate) fn new<K: Kind>() -> Checker
-        ensures { progress_of result ≡ start K.meaning }
+        ensures { progress_of result ≡ before_moves K.meaning }
     {
         Checker {
             place: (0, 0),
@@ -95,7 +95,7 @@ impl Checker {
         if self.ended || !named.starts_at(moments, self.place) {
             return Err(Refusal::NotNext);
         }
-        let arrival = named.leads::<K>(self.place);
+        let arrival = named.arrival::<K>(self.place);
         self.brackets.pass(arrival.effect)?;
         self.place = arrival.to;
         self.ended = arrival.effect.is_end();

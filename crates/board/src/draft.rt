@@ -4,7 +4,7 @@ ghost use Rattle.board.specs.Refusals.{answer};
 ghost use Rattle.board.specs.Content.{new, Sound};
 ghost use Rattle.board.specs.Calls.{size_fault, size_after, row_fault, row_after, line_fault, line_after, reprice_fault, reprice_row_after, reprice_line_after, without_lines};
 ghost use Rattle.board.specs.Held.{draft_content};
-ghost use Rattle.board.specs.Promises.{BoardPromises};
+ghost use Rattle.board.specs.Promises.{HoldsOfEveryContent};
 
 use crate::bounds::PLACES;
 use crate::refusal::Refusal;
@@ -23,7 +23,7 @@ impl<K: Kind> Draft<K> {
     pub fn new() -> Draft<K>
         ensures content { draft_content result ≡ new }
         ensures sound { Sound K.meaning (draft_content result) }
-        ensures promises { BoardPromises }
+        ensures promises { HoldsOfEveryContent }
     {
         Draft {
             tables: Tables::new(),
@@ -63,7 +63,7 @@ impl<K: Kind> Draft<K> {
             return Err(Refusal::BadRow);
         }
         if !K::is_cost(row.cost) {
-            return Err(Refusal::NoCost);
+            return Err(Refusal::NotACost);
         }
         let n = tables.rows.len();
         tables.push_row(row);
@@ -87,7 +87,7 @@ impl<K: Kind> Draft<K> {
             return Err(Refusal::NoEvent);
         }
         if !K::is_cost(line.cost) {
-            return Err(Refusal::NoCost);
+            return Err(Refusal::NotACost);
         }
         let n = tables.lines.len();
         tables.push_line(line);
@@ -133,7 +133,7 @@ fn may_reprice<K: Kind, T>(items: &[T], n: usize, cost: u32) -> Result<(), Refus
         return Err(Refusal::NoSuch);
     }
     if !K::is_cost(cost) {
-        return Err(Refusal::NoCost);
+        return Err(Refusal::NotACost);
     }
     Ok(())
 }

@@ -3,7 +3,7 @@ ghost use Rattle.std.specs.Prelude.{◌≡◌};
 ghost use Rattle.std.specs.List.{slice_get};
 ghost use Rattle.board.specs.Held.{held};
 ghost use Rattle.board.specs.Moves.{effect, end_moment?};
-ghost use Rattle.board.specs.Arrivals.{takes_line, named, timely, starts_at, leads, arrival_on};
+ghost use Rattle.board.specs.Arrivals.{takes_line, named, timely, starts_at, arrival_by, arrival_on};
 
 use crate::moves::{Arrival, Effect, Move, Place};
 use crate::row::{Line, Row, RowKind};
@@ -64,8 +64,8 @@ impl Named {
     }
 
     // Where it leads from the place, at what cost, and what it does to the brackets.
-    pub(crate) fn leads<K: Kind>(&self, place: Place) -> Arrival
-        ensures { result ≡ leads K.meaning self.now place }
+    pub(crate) fn arrival<K: Kind>(&self, place: Place) -> Arrival
+        ensures { result ≡ arrival_by K.meaning self.now place }
     {
         let row = self.row;
         let (moment, cost) = match self.line {
@@ -111,7 +111,7 @@ impl<K: Kind> Tables<K> {
     {
         let named = self.named(v)?;
         if named.starts_at(self.moments, place) {
-            Some(named.leads::<K>(place))
+            Some(named.arrival::<K>(place))
         } else {
             None
         }

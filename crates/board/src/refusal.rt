@@ -29,7 +29,7 @@ pub enum Refusal {
     // 9, reprice: there is no such row or line
     NoSuch = 9,
     // 10, add or reprice: the number is no cost of the kind
-    NoCost = 10,
+    NotACost = 10,
     // 11, cost and path: no end row has a joined cost below the worst
     NoReading = 11,
     // 12, path: the reading is longer than the buffer or than 65,535 moves

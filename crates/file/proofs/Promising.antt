@@ -10,16 +10,16 @@ use Rattle.board.specs.Refusals.{number, unless}
 use Rattle.board.specs.Refusals.{answer as refused_or}
 use Rattle.board.specs.Ease.{Eased, CallsEase}
 use Rattle.board.specs.Packing.{packed}
-use Rattle.board.specs.Settling.{RecordedReading, HasNoReading, Answer}
-use Rattle.board.specs.Computing.{ReadingFound, found, settled_log}
+use Rattle.board.specs.Settling.{RecordedReading, HasNoReading, AnswersCost}
+use Rattle.board.specs.Computing.{ReadingFound, recorded_reading, settled_log}
 use Rattle.board.specs.Questions.{cost_told, path_told, path_written}
-use Rattle.board.specs.Promises.{BoardPromises, Cheapest, Computed, NoneBelow}
+use Rattle.board.specs.Promises.{HoldsOfEveryContent, RecordedIsCheapest, Computed, NoneBelow}
 use Rattle.file.specs.declared.call.Call.{Call}
 use Rattle.file.specs.declared.call.Call.TheVariants as call
 use Rattle.file.specs.States.{State, draft, settled, content, on_draft, stepped, state_from, state_after}
 use Rattle.file.specs.Answers.{draft_answer, number_of, refused_with}
 use Rattle.file.specs.Easing.{is_load, Question, cost, Eases, adds_row, adds_line, reprices_row, reprices_line, settles, reopens, asks, declined, AllEase, none, next}
-use Rattle.file.specs.Promise.{settled_cost, cost_or_worst, answered_cost, Writes, written, AnsweredReading, AnswersCheapest, MainPromise}
+use Rattle.file.specs.Promise.{settled_cost, cost_or_worst, answered_cost, Writes, written, AnsweredReading, AnswersCheapest, AnswersCheapestWhenSettled}
 use Rattle.file.specs.Promise as promise
 use Rattle.file.proofs.Calls.Sounding.{stepped_sound, state_sound}
 
@@ -28,19 +28,19 @@ pub state_split : (m : Meaning) (s : State) (xs ys : List Call) → state_from m
 state_split m s [] ys = refl
 state_split m s (x ∷ xs) ys = state_split m (stepped m s x) xs ys
 
-module _ {m : Meaning} (laws : Lawful m) (promises : BoardPromises) where
+module _ {m : Meaning} (laws : Lawful m) (promises : HoldsOfEveryContent) where
   -- what is known of a sound content's records
   module _ (c : Content) (sound : Sound m c) where
     computed : Computed m c
     computed = promises.computed m c laws sound
 
-    cheapest : Cheapest m c (settled_log m c)
-    cheapest = (promises.settling m c laws sound).1 (settled_log m c) computed.settled
+    cheapest : RecordedIsCheapest m c (settled_log m c)
+    cheapest = ((promises.settling m c laws sound).1 (settled_log m c) computed.settled).1
 
-    recorded : (f : ReadingFound) → found m c (settled_log m c) ≡ Some f → RecordedReading m c (settled_log m c) f.cost f.moves
+    recorded : (f : ReadingFound) → recorded_reading m c (settled_log m c) ≡ Some f → RecordedReading m c (settled_log m c) f.cost f.moves
     recorded f e = (computed.some (settled_log m c) computed.settled f.cost f.moves).1 (f.row, e)
 
-    unread : found m c (settled_log m c) ≡ None → HasNoReading m c (settled_log m c)
+    unread : recorded_reading m c (settled_log m c) ≡ None → HasNoReading m c (settled_log m c)
     unread e = (computed.none (settled_log m c) computed.settled).1 e
 
     -- path by whether the reading fits
@@ -50,10 +50,10 @@ module _ {m : Meaning} (laws : Lawful m) (promises : BoardPromises) where
     writes f buffer false true h k = promise.declined (inl (leb-false _ _ h))
     writes f buffer false false h k = promise.declined (inl (leb-false _ _ h))
 
-    written_so : (f : ReadingFound) (buffer : List ℕ) → found m c (settled_log m c) ≡ Some f → Writes f.moves buffer (path_told (found m c (settled_log m c)) buffer) (path_written (found m c (settled_log m c)) buffer)
+    written_so : (f : ReadingFound) (buffer : List ℕ) → recorded_reading m c (settled_log m c) ≡ Some f → Writes f.moves buffer (path_told (recorded_reading m c (settled_log m c)) buffer) (path_written (recorded_reading m c (settled_log m c)) buffer)
     written_so f buffer e = subst (λ (o : Option ReadingFound). Writes f.moves buffer (path_told o buffer) (path_written o buffer)) (sym e) (writes f buffer _ _ refl refl)
 
-    reading_of : (f : ReadingFound) → found m c (settled_log m c) ≡ Some f → AnsweredReading m c f.cost (min (length f.moves) 65536)
+    reading_of : (f : ReadingFound) → recorded_reading m c (settled_log m c) ≡ Some f → AnsweredReading m c f.cost (min (length f.moves) 65536)
     reading_of f e =
         let r = recorded f e in
         record {
@@ -66,13 +66,13 @@ module _ {m : Meaning} (laws : Lawful m) (promises : BoardPromises) where
           cheapest = λ other x h. cheapest.cheapest f.cost x f.moves other r h;
         }
 
-    reading : (o : Option ReadingFound) → found m c (settled_log m c) ≡ o → (k n : ℕ) → cost_told o ≡ Ok (k, n) → AnsweredReading m c k n
+    reading : (o : Option ReadingFound) → recorded_reading m c (settled_log m c) ≡ o → (k n : ℕ) → cost_told o ≡ Ok (k, n) → AnsweredReading m c k n
     reading None e k n h = absurd cc
     reading (Some f) e k n h =
         let same : (f.cost, min (length f.moves) 65536) ≡ (k, n) = cc in
         subst (λ (p : ℕ × ℕ). AnsweredReading m c p.0 p.1) same (reading_of f e)
 
-    none_found : (o : Option ReadingFound) → found m c (settled_log m c) ≡ o → cost_told o ≡ Err NoReading → found m c (settled_log m c) ≡ None
+    none_found : (o : Option ReadingFound) → recorded_reading m c (settled_log m c) ≡ o → cost_told o ≡ Err NoReading → recorded_reading m c (settled_log m c) ≡ None
     none_found None e h = e
     none_found (Some f) e h = absurd cc
 
@@ -82,7 +82,7 @@ module _ {m : Meaning} (laws : Lawful m) (promises : BoardPromises) where
       λ h. ap cost_told ((computed.none (settled_log m c) computed.settled).0 (cheapest.none.1 h)),
     )
 
-    answer : (o : Option ReadingFound) → found m c (settled_log m c) ≡ o → Answer m c (settled_log m c) (cost_or_worst m (cost_told o))
+    answer : (o : Option ReadingFound) → recorded_reading m c (settled_log m c) ≡ o → AnswersCost m c (settled_log m c) (cost_or_worst m (cost_told o))
     answer None e = inr (unread e, refl)
     answer (Some f) e = inl (f.moves, recorded f e)
 
@@ -132,7 +132,7 @@ module _ {m : Meaning} (laws : Lawful m) (promises : BoardPromises) where
   since calls before after c c₀ e s f =
       ap (λ (t : State). state_from m t after) (sym f) ∙ sym (state_split m (draft new) before after) ∙ ap (state_after m) (sym s) ∙ e
 
-  pub main_promise : (calls : List Call) → MainPromise m calls
+  pub main_promise : (calls : List Call) → AnswersCheapestWhenSettled m calls
   main_promise calls c e =
       let sound = reached_sound calls c e in
       record {

@@ -12,7 +12,7 @@ use Rattle.file.specs.declared.boards.Board.TheVariants as board
 use Rattle.file.specs.States.{State, draft, settled, state_after}
 use Rattle.file.specs.declared.call.Answer.{Answer}
 use Rattle.file.specs.Answers.{step_answer, step_buffer}
-use Rattle.file.specs.Promise.{MainPromise}
+use Rattle.file.specs.Promise.{AnswersCheapestWhenSettled}
 
 -- the state of a board
 abbrev pub state_of : {K : Type 0} {k : Ghosts K} → Board K k → State
@@ -45,4 +45,4 @@ pub record Follows {K : Type 0} {k : Ghosts K} (m : Meaning) (calls : List Call)
   pub records : records_of after ≡ defined_records m (state_after m (calls ++ (x ∷ [])))
   pub answered : told ≡ step_answer m (state_after m calls) (defined_records m (state_after m calls)) x buffer
   pub written : left ≡ step_buffer m (state_after m calls) (defined_records m (state_after m calls)) x buffer
-  pub promise : MainPromise m (calls ++ (x ∷ []))
+  pub promise : AnswersCheapestWhenSettled m (calls ++ (x ∷ []))

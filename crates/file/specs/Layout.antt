@@ -2,6 +2,7 @@
 use Rattle.std.specs.Prelude.{◌≡◌, ℕ, zero, suc, ◌+◌, ◌-◌, ◌*◌, ◌/◌, ◌%◌, ◌^◌, ◌<◌, ◌≤◌, true, false, ◌↔◌, List, [], ◌∷◌, ◌++◌, map, length, Some, None, Ok, Option, Result}
 use Rattle.std.specs.List.{flat_map, AllByRecursion}
 use Rattle.costs.specs.Meaning.{Meaning, Cost}
+use Rattle.board.specs.Bounds.{most_places, most_rows, most_lines}
 use Rattle.board.specs.declared.row.Row.{Row}
 use Rattle.board.specs.declared.row.Line.{Line}
 use Rattle.board.specs.Rows.{kind_number, formed}
@@ -125,15 +126,15 @@ pub record KeepsLimits (m : Meaning) (d : Description) : Type 0 where
   pub own_letter : d.letter ≡ m.letter
   pub letter_fits : d.letter < 256
   pub some_place : 0 < d.modes * d.moments
-  pub few_places : d.modes * d.moments ≤ 64
+  pub few_places : d.modes * d.moments ≤ most_places
   pub modes_fit : d.modes < 128
   pub moments_fit : d.moments < 128
   pub plain_trust : m.scaled ≡ false → d.trust ≡ 16
   pub trust_fits : d.trust < 256
   -- at most 128 rows and 128 lines, which fits a count of 12 bits, each within its limits
-  pub few_rows : length (held_in d.rows) ≤ 128
+  pub few_rows : length (held_in d.rows) ≤ most_rows
   pub rows_keep : AllByRecursion (RowLimits m d.modes) (held_in d.rows)
-  pub few_lines : length (held_in d.lines) ≤ 128
+  pub few_lines : length (held_in d.lines) ≤ most_lines
   pub lines_keep : AllByRecursion (LineLimits m d.moments d.trust) (held_in d.lines)
   -- a note of at most 4,095 bytes
   pub note_fits : length (held_in d.note) < 4096
@@ -141,8 +142,8 @@ pub record KeepsLimits (m : Meaning) (d : Description) : Type 0 where
 
 -- the most bytes of a file within its limits: a header of 4, a head of 2 and 128 times 8 of rows, as many of lines, and a
 -- head of 2 and 4,095 of a note
-abbrev pub longest : ℕ
-longest = 6153
+abbrev pub longest_file : ℕ
+longest_file = 6153
 
 -- the board's content that a file describes: the costs of its lines as trust has them
 abbrev pub content_of : Meaning → Description → Content

@@ -1,6 +1,7 @@
 -- The main promise: whatever calls led to a settled board, its answer is the cheapest complete reading there is.
 use Rattle.std.specs.Prelude.{◌≡◌, ℕ, ◌<◌, ◌≤◌, min, ◌⊎◌, ◌↔◌, List, ◌++◌, map, length, drop, Ok, Err, Result}
 use Rattle.costs.specs.Meaning.{Meaning, NoDearer}
+use Rattle.board.specs.Bounds.{many_moves, most_written}
 use Rattle.board.specs.declared.moves.Move.{Move}
 use Rattle.board.specs.declared.refusal.Refusal.{Refusal}
 use Rattle.board.specs.declared.refusal.Refusal.TheVariants.{NoReading, TooLong}
@@ -40,8 +41,8 @@ answered_cost m c = cost_or_worst m (settled_cost m c)
 -- Path writes these moves to the front of the buffer, changes no later number and answers how many; or they are too many
 -- for the buffer or for the number, and it declines and leaves the buffer.
 pub data Writes (vs : List Move) (buffer : List ℕ) : Result ℕ Refusal → List ℕ → Type 0 where
-  written : length vs ≤ length buffer → length vs ≤ 65535 → Writes vs buffer (Ok (length vs)) (map packed vs ++ drop (length vs) buffer)
-  declined : (length buffer < length vs) ⊎ (65535 < length vs) → Writes vs buffer (Err TooLong) buffer
+  written : length vs ≤ length buffer → length vs ≤ most_written → Writes vs buffer (Ok (length vs)) (map packed vs ++ drop (length vs) buffer)
+  declined : (length buffer < length vs) ⊎ (most_written < length vs) → Writes vs buffer (Err TooLong) buffer
 
 -- The reading behind an answered cost k and number of moves n.
 pub record AnsweredReading (m : Meaning) (c : Content) (k n : ℕ) : Type 0 where
@@ -51,7 +52,7 @@ pub record AnsweredReading (m : Meaning) (c : Content) (k n : ℕ) : Type 0 wher
   -- it is complete, at the answered cost
   pub complete : Complete m c reading k
   -- it has the answered number of moves, 65,536 where it has more
-  pub number : n ≡ min (length reading) 65536
+  pub number : n ≡ min (length reading) many_moves
   -- it is what path writes, into every buffer
   pub written : (buffer : List ℕ) → Writes reading buffer (settled_path m c buffer) (path_left m c buffer)
   -- the check accepts it, at the answered cost
@@ -69,5 +70,5 @@ pub record AnswersCheapest (m : Meaning) (calls : List Call) (c : Content) : Typ
   pub no_dearer_since : (before after : List Call) (c₀ : Content) → calls ≡ before ++ after → state_after m before ≡ settled c₀ → AllEase m (settled c₀) after → NoDearer m (answered_cost m c) (answered_cost m c₀)
 
 -- The main promise over a list of calls.
-abbrev pub MainPromise : Meaning → List Call → Type 0
-MainPromise m calls = (c : Content) → state_after m calls ≡ settled c → AnswersCheapest m calls c
+abbrev pub AnswersCheapestWhenSettled : Meaning → List Call → Type 0
+AnswersCheapestWhenSettled m calls = (c : Content) → state_after m calls ≡ settled c → AnswersCheapest m calls c

@@ -31,14 +31,14 @@ kind_of_code code =
     cond (code == rows_code) (Ok Rows) (cond (code == lines_code) (Ok Lines) (cond (code == note_code) (Ok Note) (Err WrongSection)))
 
 -- the section of that kind, part and count
-abbrev pub found : SectionKind → Unread → ℕ → Found
-found kind part count = record { code = section_code kind; part = unread part; count = count }
+abbrev pub section_of : SectionKind → Unread → ℕ → Found
+section_of kind part count = record { code = section_code kind; part = unread part; count = count }
 
 -- what the code's section stands for, and the same of answers
 abbrev pub found_section : Section → Found
-found_section (SomeRows part count) = found Rows part count
-found_section (SomeLines part count) = found Lines part count
-found_section (ANote part count) = found Note part count
+found_section (SomeRows part count) = section_of Rows part count
+found_section (SomeLines part count) = section_of Lines part count
+found_section (ANote part count) = section_of Note part count
 
 abbrev pub found_read : Result Section FileRefusal → Result Found FileRefusal
 found_read (Ok s) = Ok (found_section s)

@@ -1,7 +1,7 @@
 // A board that is being filled from a file.
 ghost use Rattle.std.specs.Prelude.{◌≡◌, ◌+◌, drop, OnOk};
 ghost use Rattle.board.specs.Held.{draft_content};
-ghost use Rattle.file.specs.Readers.{found, found_section, reading};
+ghost use Rattle.file.specs.Readers.{section_of, found_section, reading};
 ghost use Rattle.file.specs.declared.section.SectionKind.TheVariants.{Note};
 ghost use Rattle.file.specs.Records.{record_added, record_next, records};
 ghost use Rattle.file.specs.Fillings.{told, so_far, from_stage};
@@ -51,7 +51,7 @@ impl<'d, 'a, K: Kind> Filling<'d, 'a, K> {
 
     // Takes the note, which the file has to hold whole.
     fn take_note(&mut self, part: Unread<'a>, count: u16) -> Result<(), LoadFault>
-        ensures after { told result (so_far self.new) ≡ note_taken (found Note part.entry count) (so_far self.old) }
+        ensures after { told result (so_far self.new) ≡ note_taken (section_of Note part.entry count) (so_far self.old) }
         ensures same { (self.new.draft.ghost_name ≡ self.old.draft.ghost_name) × (self.new.trust ≡ self.old.trust) × (self.new.draft.now ≡ self.old.draft.now) }
     {
         if part.bytes.len() < usize::from(count) {

@@ -5,7 +5,7 @@ ghost use Rattle.board.specs.Content.{Content, Sound};
 ghost use Rattle.board.specs.Held.{draft_content};
 ghost use Rattle.file.specs.Examples.{LayoutExamples};
 ghost use Rattle.file.specs.Parts.{answered};
-ghost use Rattle.file.specs.Layout.{LoadsExactly, longest};
+ghost use Rattle.file.specs.Layout.{LoadsExactly, longest_file};
 ghost use Rattle.file.specs.Declined.{DeclinesExactly};
 ghost use Rattle.file.specs.Load.{opened, filled, note_answer, content_left, load_answer, load_after};
 ghost use Rattle.file.specs.Fillings.{told_note, told_trust};
@@ -32,7 +32,7 @@ pub trait Load {
         ensures sound { Sound costs (content self.new) }
         ensures exact { LoadsExactly costs bytes.now (answered result) (content self.new) }
         ensures refusals { DeclinesExactly costs bytes.now (answered result) }
-        ensures size { IfOk result (λ _. length bytes.now ≤ longest) }
+        ensures size { IfOk result (λ _. length bytes.now ≤ longest_file) }
         ensures examples { LayoutExamples };
 }
 

@@ -2,7 +2,7 @@
 ghost use Rattle.std.specs.Prelude.{◌≡◌};
 ghost use Rattle.file.specs.States.{state_after};
 ghost use Rattle.file.specs.Histories.{records_of, defined_records, Holds};
-ghost use Rattle.file.specs.Promise.{MainPromise};
+ghost use Rattle.file.specs.Promise.{AnswersCheapestWhenSettled};
 
 use crate::boards::Board;
 use crate::call::Call;
@@ -14,7 +14,7 @@ use costs::Kind;
 pub fn replay<K: Kind>(calls: &[Call<'_>]) -> Board<K>
     ensures holds { Holds K.meaning calls.now result }
     ensures records { records_of result ≡ defined_records K.meaning (state_after K.meaning calls.now) }
-    ensures promise { MainPromise K.meaning calls.now }
+    ensures promise { AnswersCheapestWhenSettled K.meaning calls.now }
 {
     // (does nothing: it names what the board promises, on which `promise` rests)
     board_theorems();

@@ -9,7 +9,7 @@ use Rattle.words.specs.Numbers.{number_of}
 use Rattle.words.specs.Pieces.{spacing, pieces_of}
 use Rattle.price.specs.declared.answer.Total.{Total}
 use Rattle.price.specs.declared.answer.Fault.{Fault}
-use Rattle.price.specs.declared.answer.Fault.TheVariants.{NoCost, Unreadable, OutOfMemory}
+use Rattle.price.specs.declared.answer.Fault.TheVariants.{NotACost, Unreadable, OutOfMemory}
 
 -- What a line comes to; words are their bytes.
 pub data LineAnswer : Type 0 where
@@ -100,12 +100,12 @@ ReadsWritten =
 abbrev pub answer_of : Result (Option Total) Fault → Option LineAnswer
 answer_of (Ok None) = Some nothing
 answer_of (Ok (Some t)) = Some (total (letter_of t.kind) t.cost)
-answer_of (Err (NoCost w)) = Some (no_cost w.now)
+answer_of (Err (NotACost w)) = Some (no_cost w.now)
 answer_of (Err (Unreadable w)) = Some (unreadable w.now)
 answer_of (Err OutOfMemory) = None
 
 -- the fault is the first word that is no number, or memory that did not suffice
 abbrev pub FirstUnread : List (List ℕ) → Fault → Type 0
-FirstUnread ws (NoCost w) = ⊥
+FirstUnread ws (NotACost w) = ⊥
 FirstUnread ws (Unreadable w) = read_costs ws ≡ Err w.now
 FirstUnread ws OutOfMemory = Unit {0}

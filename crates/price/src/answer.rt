@@ -21,7 +21,7 @@ pub struct Total {
 #[derive(Clone, Copy)]
 pub enum Fault<'a> {
     // 10: the first number that is no cost of the kind, as it was written
-    NoCost(&'a [u8]),
+    NotACost(&'a [u8]),
     // the first word that cannot be read, as it was written
     Unreadable(&'a [u8]),
     // memory did not suffice

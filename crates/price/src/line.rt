@@ -65,7 +65,7 @@ fn words_answer<'a>(heap: Global, words: &[&'a [u8]]) -> Answer<'a>
     };
     let kind = kind_named(letter).ok_or(Fault::Unreadable(letter))?;
     let numbers = numbers(heap, costs)?;
-    let cost = joined(kind, numbers.as_slice()).map_err(|i| Fault::NoCost(costs[i]))?;
+    let cost = joined(kind, numbers.as_slice()).map_err(|i| Fault::NotACost(costs[i]))?;
     Ok(Some(Total { kind, cost }))
 }
 

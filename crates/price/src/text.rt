@@ -30,7 +30,7 @@ fn push_answer(out: &mut Vec<u8>, answer: Answer<'_>) -> Result<(), AllocError>
             let line = format!(in *out.allocator(); "{total}\n")?;
             out.extend_from_slice(line.as_bytes())
         }
-        Err(Fault::NoCost(word)) => push_word_line(out, b"no 10 ", word),
+        Err(Fault::NotACost(word)) => push_word_line(out, b"no 10 ", word),
         Err(Fault::Unreadable(word)) => push_word_line(out, b"unreadable ", word),
         Err(Fault::OutOfMemory) => Err(AllocError),
     }

@@ -17,8 +17,8 @@ use Rattle.board.specs.Moves.{Place, IsMove, Untimed, Timed}
 use Rattle.board.specs.Packing.{packed, unpacked, SmallLine, Small, PackingIsExact}
 use Rattle.board.specs.Paths.{Path, stop, go}
 use Rattle.board.specs.Settling.{Record, RecordedReading, HasNoReading}
-use Rattle.board.specs.Computing.{settled_log, ReadingFound, found}
-use Rattle.board.specs.Promises.{BoardPromises, Cheapest, Computed, NoneBelow}
+use Rattle.board.specs.Computing.{settled_log, ReadingFound, recorded_reading}
+use Rattle.board.specs.Promises.{HoldsOfEveryContent, RecordedIsCheapest, Computed, NoneBelow}
 use Rattle.board.specs.Questions.{cost_told, cost_answer}
 use Rattle.board.specs.Meanings.{Written}
 use Rattle.file.specs.declared.refusal.LoadFault.{LoadFault}
@@ -68,14 +68,14 @@ module _ {c : Content} where
         (ap (λ (o : Option Move). flat_map (line_of c) (option_to_list o)) (exact.comes_back v s) ∙ append-nil (line_of c v))
         (packed_lines rest)
 
-module _ {m : Meaning} (laws : Lawful m) (promises : BoardPromises) {c : Content} (sound : Sound m c) where
+module _ {m : Meaning} (laws : Lawful m) (promises : HoldsOfEveryContent) {c : Content} (sound : Sound m c) where
   computed : Computed m c
   computed = promises.computed m c laws sound
 
-  cheapest : Cheapest m c (settled_log m c)
-  cheapest = (promises.settling m c laws sound).1 (settled_log m c) computed.settled
+  cheapest : RecordedIsCheapest m c (settled_log m c)
+  cheapest = ((promises.settling m c laws sound).1 (settled_log m c) computed.settled).1
 
-  found_so : {k : ℕ} {vs : List Move} → RecordedReading m c (settled_log m c) k vs → (i : ℕ) × (found m c (settled_log m c) ≡ Some (record { row = i; cost = k; moves = vs }))
+  found_so : {k : ℕ} {vs : List Move} → RecordedReading m c (settled_log m c) k vs → (i : ℕ) × (recorded_reading m c (settled_log m c) ≡ Some (record { row = i; cost = k; moves = vs }))
   found_so {k} {vs} r = (computed.some (settled_log m c) computed.settled k vs).0 r
 
   reading_shown : {k : ℕ} {vs : List Move} → RecordedReading m c (settled_log m c) k vs → Shown c vs
@@ -117,7 +117,7 @@ module _ {m : Meaning} (laws : Lawful m) (promises : BoardPromises) {c : Content
         ∙ sym (short_lines w.recorded short)
 
 -- what is printed of a file
-pub prints_reading : {m : Meaning} (laws : Lawful m) (promises : BoardPromises) (bytes : List ℕ) → Sound m (load_after m bytes) → PrintsReading m bytes
+pub prints_reading : {m : Meaning} (laws : Lawful m) (promises : HoldsOfEveryContent) (bytes : List ℕ) → Sound m (load_after m bytes) → PrintsReading m bytes
 prints_reading {m} laws promises bytes sound =
     let c = load_after m bytes in
     let loads : (n : Piece) → load_answer m bytes ≡ Ok n → lines_under m bytes ≡ settled_lines m c (settled_log m c) = λ n is. ap (λ (o : Result Piece LoadFault). loaded_lines m o c) is in

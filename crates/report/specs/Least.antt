@@ -13,7 +13,7 @@ use Rattle.board.specs.Refusals.{refusal_text}
 use Rattle.board.specs.Content.{Content}
 use Rattle.board.specs.Moves.{IsMove}
 use Rattle.board.specs.Settling.{Record, RecordedReading}
-use Rattle.board.specs.Computing.{settled_log, ReadingFound, found}
+use Rattle.board.specs.Computing.{settled_log, ReadingFound, recorded_reading}
 use Rattle.board.specs.Promises.{NoneBelow}
 use Rattle.file.specs.declared.refusal.LoadFault.{LoadFault}
 use Rattle.file.specs.Refusals.{load_fault_text}
@@ -63,7 +63,7 @@ reading_lines m c (Some f) =
 
 -- the same, by a settled board's content and its records
 abbrev pub settled_lines : Meaning → Content → List Record → List ℕ
-settled_lines m c log = reading_lines m c (found m c log)
+settled_lines m c log = reading_lines m c (recorded_reading m c log)
 
 -- what is printed of a load's answer and the content it left
 abbrev pub loaded_lines : Meaning → Result Piece LoadFault → Content → List ℕ
@@ -79,12 +79,12 @@ abbrev pub least_lines : List ℕ → List ℕ
 least_lines bytes = lines_under (meaning_under (slice_index_or bytes 0 80)) bytes
 
 -- how many bytes of its input the program `least` reads: so many as tell a load
-abbrev pub longest : ℕ
-longest = telling
+abbrev pub bytes_read : ℕ
+bytes_read = telling
 
 -- That limit never shows: what is printed of a file's first bytes, so many, is what is printed of all of it.
 abbrev pub LimitNeverShows : Type 0
-LimitNeverShows = (bytes : List ℕ) → least_lines (take longest bytes) ≡ least_lines bytes
+LimitNeverShows = (bytes : List ℕ) → least_lines (take bytes_read bytes) ≡ least_lines bytes
 
 -- The lines of these moves on a content, each by the row that it names.
 pub data LinesOf (c : Content) : List Move → List ℕ → Type 0 where

@@ -3,7 +3,7 @@ use Rattle.std.specs.Prelude.{◌≡◌, ℕ, List, [], ◌∷◌, ◌++◌, map
 use Rattle.costs.specs.Kinds.{points, severity, rank}
 use Rattle.costs.specs.Examples.{JoiningExamples}
 use Rattle.board.specs.declared.row.RowKind.TheVariants.{Open, Close, End}
-use Rattle.board.specs.declared.refusal.Refusal.TheVariants.{SizeOut, NoCost, NoReading, TooLong}
+use Rattle.board.specs.declared.refusal.Refusal.TheVariants.{SizeOut, NotACost, NoReading, TooLong}
 use Rattle.board.specs.Refusals.{number}
 use Rattle.board.specs.Content.{Content, new}
 use Rattle.board.specs.Calls.{size_fault, row_fault, with_row_cost}
@@ -86,12 +86,12 @@ pub record WorkedExamples : Type 0 where
   pub other_bracket : settled_cost points (two_brackets 1) ≡ Err NoReading
   pub same_bracket : settled_cost points (two_brackets 0) ≡ Ok (9, 3)
   -- in rank, the number after the last cost is declined
-  pub rank_declined : row_fault rank new (row End 0 0 0 0 4293918720) ≡ Some NoCost
+  pub rank_declined : row_fault rank new (row End 0 0 0 0 4293918720) ≡ Some NotACost
   -- 64 places at most
   pub square : size_fault new 8 8 ≡ None
   pub oblong : size_fault new 5 13 ≡ Some SizeOut
   -- the numbers of these refusals
   pub size_number : number SizeOut ≡ 2
-  pub cost_number : number NoCost ≡ 10
+  pub cost_number : number NotACost ≡ 10
   pub reading_number : number NoReading ≡ 11
   pub length_number : number TooLong ≡ 12

@@ -1,7 +1,7 @@
 // The program `least`, from its input to its output.
 ghost use Rattle.std.specs.Prelude.{◌≡◌, take, IfOk, OnOk, IfSome};
 ghost use Rattle.std.specs.Io.KnownBytes.{Appends};
-ghost use Rattle.report.specs.Least.{least_lines, longest};
+ghost use Rattle.report.specs.Least.{least_lines, bytes_read};
 
 use crate::files::least;
 use std::alloc::Global;
@@ -13,7 +13,7 @@ const LONGEST: u64 = 8192;
 
 // The input's first bytes, as many as are read.
 fn read_first<R: Read + Drop>(heap: Global, reader: R) -> io::Result<Vec<u8>>
-    ensures { IfOk result (λ v. IfSome (R.remaining reader) (λ input. v.items ≡ take longest input)) }
+    ensures { IfOk result (λ v. IfSome (R.remaining reader) (λ input. v.items ≡ take bytes_read input)) }
 {
     let mut input = Vec::new(heap);
     reader.take(LONGEST).read_to_end(&mut input)?;

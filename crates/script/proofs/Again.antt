@@ -21,7 +21,7 @@ use Rattle.script.specs.Calls.{Call, kind}
 use Rattle.script.specs.declared.check.Run.{Run}
 use Rattle.script.specs.declared.name.Name.{Name}
 use Rattle.script.specs.declared.name.Name.TheVariants as name
-use Rattle.script.specs.Forms.{alone_call, kind_call, two_wide, row_limits, row_from, row_call, line_limits, load_call, longest}
+use Rattle.script.specs.Forms.{alone_call, kind_call, two_wide, row_limits, row_from, row_call, line_limits, load_call, longest_list}
 use Rattle.script.specs.Names.{spells, name_of}
 use Rattle.script.specs.Runs.{run_of, run_from, split_run, run_before, runs_of, not_too_long, moves_of, check_call}
 use Rattle.script.specs.Script.{call, skip, call_of, call_parsed, name_parsed, words_parsed, is_comment, line_parsed, script_part_of}
@@ -191,7 +191,7 @@ call_free laws name.Load ws y e = file_free ws y e
 call_free laws name.Settle ws y e = alone_free _ ws y e
 call_free laws name.Reopen ws y e = alone_free _ ws y e
 call_free laws name.Cost ws y e = alone_free _ ws y e
-call_free laws name.Path ws y e = numbered_free _ (longest ∷ []) ws y e
+call_free laws name.Path ws y e = numbered_free _ (longest_list ∷ []) ws y e
 call_free laws name.Between ws y e = numbered_free _ two_wide ws y e
 call_free laws name.Check ws y e = moves_free laws ws y e
 

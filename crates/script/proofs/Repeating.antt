@@ -2,7 +2,7 @@
 use Rattle.std.proofs.Common.{◌≡◌, ℕ, ◌+◌, ◌-◌, ◌<◌, List, [], ◌++◌, length, get_or, take, drop, replicate, Some, None, Option, Bor, sym, refl, ap, ◌∙◌, arith, map, ◌∷◌}
 use Rattle.std.proofs.lemmas.List.{append_assoc, length-append, length-map, length-replicate, get_or-map, drop_more, take_all}
 use Rattle.std.proofs.lemmas.Bool.{cond-false, lt-leb}
-use Rattle.script.specs.Forms.{longest}
+use Rattle.script.specs.Forms.{longest_list}
 use Rattle.script.specs.Runs.{run_of, run_moves, run_before, runs_of, not_too_long}
 use Rattle.script.specs.declared.check.Run.{Run}
 
@@ -20,9 +20,9 @@ one_run : (xs : List ℕ) (r : Run) (o : Option (List ℕ)) → after (xs ++ run
 one_run xs r None = refl
 one_run xs r (Some ys) = ap Some (append_assoc xs (run_moves r) ys)
 
-too_long : (xs : List ℕ) (o : Option (List ℕ)) → longest < length xs → not_too_long (after xs o) ≡ None
+too_long : (xs : List ℕ) (o : Option (List ℕ)) → longest_list < length xs → not_too_long (after xs o) ≡ None
 too_long xs None long = refl
-too_long xs (Some ys) long = cond-false _ _ _ (lt-leb (length (xs ++ ys)) longest (omega (arith, length-append xs ys)))
+too_long xs (Some ys) long = cond-false _ _ _ (lt-leb (length (xs ++ ys)) longest_list (omega (arith, length-append xs ys)))
 
 -- what is left of the words
 module _ (words : List (Bor (List ℕ))) (i : ℕ) (within : i < length words) (d : Bor (List ℕ)) (xs : List ℕ) where
@@ -42,7 +42,7 @@ module _ (words : List (Bor (List ℕ))) (i : ℕ) (within : i < length words) (
   pub run_stop : run_of (get_or words i d).now ≡ None → not_too_long (after xs (runs_of (left i))) ≡ None
   run_stop e = ap (λ vs. not_too_long (after xs (runs_of vs))) here ∙ ap (λ o. not_too_long (after xs (run_before o (runs_of (left (i + 1)))))) e
 
-  pub run_too_long : (r : Run) → run_of (get_or words i d).now ≡ Some r → longest < length xs + r.times → not_too_long (after xs (runs_of (left i))) ≡ None
+  pub run_too_long : (r : Run) → run_of (get_or words i d).now ≡ Some r → longest_list < length xs + r.times → not_too_long (after xs (runs_of (left i))) ≡ None
   run_too_long r e long =
       sym (run_next r e)
       ∙ too_long (xs ++ run_moves r) (runs_of (left (i + 1))) (omega (arith, long, length-append xs (run_moves r), length-replicate r.times r.number))

@@ -16,7 +16,7 @@ use Rattle.words.specs.Numbers.{number_before, numbers_of}
 use Rattle.words.specs.Pieces.{spacing, pieces_of, NoSeparator}
 use Rattle.words.specs.Laws.{WordLaws}
 use Rattle.script.specs.Calls.{Call, kind, size, row, line, reprice_row, reprice_line, clear, load, settle, reopen, cost, path, between, check}
-use Rattle.script.specs.Forms.{longest, two_wide, row_limits, line_limits, kind_word, two_call, row_from, line_from, load_call}
+use Rattle.script.specs.Forms.{longest_list, two_wide, row_limits, line_limits, kind_word, two_call, row_from, line_from, load_call}
 use Rattle.script.specs.Names.{spells}
 use Rattle.script.specs.Runs.{run_of, run_from, split_run, run_before, runs_of, not_too_long, check_call}
 use Rattle.script.specs.Script.{call, call_parsed, words_parsed}
@@ -67,7 +67,7 @@ row_limits_fit = (omega arith, (omega arith, (omega arith, (omega arith, (omega 
 line_limits_fit : AllByRecursion (λ m. m < 2 ^ 64) line_limits
 line_limits_fit = (omega arith, (omega arith, (omega arith, (omega arith, tt))))
 
-longest_fits : AllByRecursion (λ m. m < 2 ^ 64) (longest ∷ [])
+longest_fits : AllByRecursion (λ m. m < 2 ^ 64) (longest_list ∷ [])
 longest_fits = (omega arith, tt)
 
 -- the words of a call are plain
@@ -107,7 +107,7 @@ module _ (laws : WordLaws) where
   plain_words settle fits = tt
   plain_words reopen fits = tt
   plain_words cost fits = tt
-  plain_words (path n) fits = plain_decimals laws (longest ∷ []) (n ∷ []) longest_fits (fits, tt)
+  plain_words (path n) fits = plain_decimals laws (longest_list ∷ []) (n ∷ []) longest_fits (fits, tt)
   plain_words (between s q) fits = plain_decimals laws two_wide (s ∷ q ∷ []) two_wide_fit fits
   plain_words (check ms) fits = plain_moves laws ms fits.0
 
@@ -136,9 +136,9 @@ module _ (laws : WordLaws) where
   says_file [] small = refl
   says_file (b ∷ bs) small = ap (option_map load) (laws.bytes_back (b ∷ bs) small)
 
-  says_moves : (ms : List ℕ) → AllByRecursion (λ m. m < 2 ^ 16) ms → length ms ≤ longest → check_call (map written_u16 ms) ≡ Some (check ms)
+  says_moves : (ms : List ℕ) → AllByRecursion (λ m. m < 2 ^ 16) ms → length ms ≤ longest_list → check_call (map written_u16 ms) ≡ Some (check ms)
   says_moves ms small short =
-      ap (λ o. option_map check (not_too_long o)) (runs_back laws ms small) ∙ ap (option_map check) (cond-true _ _ _ (le-leb (length ms) longest short))
+      ap (λ o. option_map check (not_too_long o)) (runs_back laws ms small) ∙ ap (option_map check) (cond-true _ _ _ (le-leb (length ms) longest_list short))
 
   says : (c : Call) → Fits c → words_parsed (name_word c ∷ words_after c) ≡ call c
   unfolding spells
@@ -153,7 +153,7 @@ module _ (laws : WordLaws) where
   says settle fits = refl
   says reopen fits = refl
   says cost fits = refl
-  says (path n) fits = ap (λ o. call_parsed (option_map (λ ns. path (get_or ns 0 0)) o)) (numbers_back laws (longest ∷ []) (n ∷ []) longest_fits (fits, tt))
+  says (path n) fits = ap (λ o. call_parsed (option_map (λ ns. path (get_or ns 0 0)) o)) (numbers_back laws (longest_list ∷ []) (n ∷ []) longest_fits (fits, tt))
   says (between s q) fits = ap call_parsed (says_two between s q fits)
   says (check ms) fits = ap call_parsed (says_moves ms fits.0 fits.1)
 

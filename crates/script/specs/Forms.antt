@@ -12,8 +12,8 @@ abbrev pub widest : ℕ
 widest = 4294967295
 
 -- the largest length of a buffer or of a list of moves
-abbrev pub longest : ℕ
-longest = 1048576
+abbrev pub longest_list : ℕ
+longest_list = 1048576
 
 -- the limits of two numbers of 32 bits, of a row's numbers and of a line's
 abbrev pub two_wide : List ℕ
@@ -95,7 +95,7 @@ load_call ws = file_call (file_word ws)
 
 -- path LENGTH
 abbrev pub path_call : List (List ℕ) → Option Call
-path_call ws = option_map (λ ns. path (slice_index ns 0)) (numbers_of (longest ∷ []) ws)
+path_call ws = option_map (λ ns. path (slice_index ns 0)) (numbers_of (longest_list ∷ []) ws)
 
 -- between S Q
 abbrev pub between_call : List (List ℕ) → Option Call

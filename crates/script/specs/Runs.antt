@@ -5,7 +5,7 @@ use Rattle.words.specs.Hex.{hex_number_of}
 use Rattle.words.specs.Numbers.{number_of}
 use Rattle.words.specs.Splits.{split_of}
 use Rattle.script.specs.Calls.{Call, check}
-use Rattle.script.specs.Forms.{widest, longest}
+use Rattle.script.specs.Forms.{widest, longest_list}
 use Rattle.script.specs.declared.check.Run.{Run}
 
 -- a number so many times
@@ -39,7 +39,7 @@ runs_of (w ∷ ws) = run_before (run_of w) (runs_of ws)
 -- a list of at most the longest length
 abbrev pub not_too_long : Option (List ℕ) → Option (List ℕ)
 not_too_long None = None
-not_too_long (Some ms) = cond (nat_le (length ms) longest) (Some ms) None
+not_too_long (Some ms) = cond (nat_le (length ms) longest_list) (Some ms) None
 
 -- the numbers that the words list
 abbrev pub moves_of : List (List ℕ) → Option (List ℕ)

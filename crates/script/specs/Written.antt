@@ -7,7 +7,7 @@ use Rattle.board.specs.declared.row.Line.{Line}
 use Rattle.board.specs.Rows.{kind_number}
 use Rattle.words.specs.Hex.{written_bytes, written_u16}
 use Rattle.script.specs.Calls.{Call, kind, size, row, line, reprice_row, reprice_line, clear, load, settle, reopen, cost, path, between, check}
-use Rattle.script.specs.Forms.{longest, two_wide, row_limits, line_limits}
+use Rattle.script.specs.Forms.{longest_list, two_wide, row_limits, line_limits}
 use Rattle.script.specs.Script.{call, script_part_of, line_parsed}
 
 -- words, a space before each
@@ -81,9 +81,9 @@ Fits (load bs) = AllByRecursion (λ b. b < 2 ^ 8) bs
 Fits settle = Unit {0}
 Fits reopen = Unit {0}
 Fits cost = Unit {0}
-Fits (path n) = n ≤ longest
+Fits (path n) = n ≤ longest_list
 Fits (between s q) = UpTo two_wide (s ∷ q ∷ [])
-Fits (check ms) = AllByRecursion (λ m. m < 2 ^ 16) ms × (length ms ≤ longest)
+Fits (check ms) = AllByRecursion (λ m. m < 2 ^ 16) ms × (length ms ≤ longest_list)
 
 -- The laws of a call's line.
 pub record ReadsWritten : Type 0 where

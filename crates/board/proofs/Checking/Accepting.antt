@@ -16,8 +16,8 @@ use Rattle.board.specs.Content.{Content}
 use Rattle.board.specs.Moves.{Place, Transition}
 use Rattle.board.specs.Paths.{Path, stop, go, stack, Running}
 use Rattle.board.specs.Packing.{unpacked}
-use Rattle.board.specs.Arrivals.{named, leads}
-use Rattle.board.specs.Checks.{bracketed, Progress, start, arrived, take_named, named_by_number, take_move, or_fault, checked_from, check_answer}
+use Rattle.board.specs.Arrivals.{named, arrival_by}
+use Rattle.board.specs.Checks.{bracketed, Progress, before_moves, arrived, take_named, named_by_number, take_move, or_fault, checked_from, check_answer}
 use Rattle.board.specs.Accepted.{ShallowFrom, PacksReading, AcceptsReadings}
 use Rattle.board.specs.Moves.{is_end}
 use Rattle.board.proofs.Paths.Naming.{named_goes, goes_named}
@@ -66,7 +66,7 @@ module _ (m : Meaning) (c : Content) (w : Progress) (x : ℕ) (w' : Progress) wh
   took_named v (Some a) u n e =
       let z = cond_ok _ _ _ _ e in
       let t = or_parts _ _ z.0 in
-      took_arrival v (leads m a w.place) _ u (named_goes m c v w.place a n (not-false _ t.1)) refl z.1
+      took_arrival v (arrival_by m a w.place) _ u (named_goes m c v w.place a n (not-false _ t.1)) refl z.1
 
   took_number : (o : Option Move) → unpacked x ≡ o → take_named m c.moments w (named_by_number c o) ≡ Ok w' → Took m c w x w'
   took_number None u e = absurd (err_ok _ w' e)
@@ -290,7 +290,7 @@ module _ {m : Meaning} {c : Content} where
     where
       there : check_answer m c xs ≡ Ok k → PacksReading m c xs k
       there e =
-          let r = passed xs 0 (start m) k (omega arith) refl e in
+          let r = passed xs 0 (before_moves m) k (omega arith) refl e in
           record {
             moves = r.moves;
             packs = r.packs;

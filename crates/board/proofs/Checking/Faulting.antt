@@ -6,7 +6,7 @@ use Rattle.board.specs.declared.check.Fault.{Fault}
 use Rattle.board.specs.declared.refusal.Refusal.{Refusal}
 use Rattle.board.specs.declared.refusal.Refusal.TheVariants.{NoEnd}
 use Rattle.board.specs.Content.{Content, Sound}
-use Rattle.board.specs.Checks.{Progress, start, check_answer}
+use Rattle.board.specs.Checks.{Progress, before_moves, check_answer}
 use Rattle.board.specs.Faults.{FirstFault, at_move, no_end, RefusesFaults}
 use Rattle.board.proofs.Checking.Walking.{Walk, fault, Halts, halted, stops_at, stops_after}
 use Rattle.board.proofs.Checking.Refusing.{underway, walk_under, refused, refusing}
@@ -16,10 +16,10 @@ from_zero n e = let z : 0 + n ≡ n = omega arith in ap (λ k. Err (fault k e)) 
 
 module _ {m : Meaning} {c : Content} (sound : Sound m c) (xs : List ℕ) where
   -- where a check halts, the list is at fault
-  at_fault : (n : ℕ) (e : Refusal) (u : Progress) → Walk m c (start m) (take n xs) u → Halts m c xs n u e → FirstFault m c xs n e
+  at_fault : (n : ℕ) (e : Refusal) (u : Progress) → Walk m c (before_moves m) (take n xs) u → Halts m c xs n u e → FirstFault m c xs n e
   at_fault n e u walk h = ⊎_elim
       (λ z. at_move z.0 z.1 (refused (take n xs) sound z.0 e u walk z.2))
-      (λ z. subst (FirstFault m c xs n) (sym z.2) (no_end z.0 (underway xs (subst (λ l. Walk m c (start m) l u) (ap (λ k. take k xs) z.0 ∙ take-length xs) walk) z.1)))
+      (λ z. subst (FirstFault m c xs n) (sym z.2) (no_end z.0 (underway xs (subst (λ l. Walk m c (before_moves m) l u) (ap (λ k. take k xs) z.0 ∙ take-length xs) walk) z.1)))
       h
 
   -- and back
@@ -32,7 +32,7 @@ module _ {m : Meaning} {c : Content} (sound : Sound m c) (xs : List ℕ) where
     where
       there : check_answer m c xs ≡ Err f → FirstFault m c xs f.index f.refusal
       there e =
-          let h = halted xs (start m) 0 f e in
+          let h = halted xs (before_moves m) 0 f e in
           let i : h.after ≡ f.index = omega (arith, h.index) in
           subst (λ n. FirstFault m c xs n f.refusal) i (at_fault h.after f.refusal h.reached h.walk h.halts)
 

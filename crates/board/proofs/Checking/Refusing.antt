@@ -16,9 +16,9 @@ use Rattle.board.specs.declared.refusal.Refusal.{Refusal}
 use Rattle.board.specs.declared.refusal.Refusal.TheVariants.{BadMove, NotNext, BadBracket, TooDeep}
 use Rattle.board.specs.Content.{Content, Sound}
 use Rattle.board.specs.Moves.{Place}
-use Rattle.board.specs.Arrivals.{timely, starts_then, starts_at, leads}
+use Rattle.board.specs.Arrivals.{timely, starts_then, starts_at, arrival_by}
 use Rattle.board.specs.Packing.{unpacked}
-use Rattle.board.specs.Checks.{bracketed, Progress, start, arrived, take_named, named_by_number, take_move}
+use Rattle.board.specs.Checks.{bracketed, Progress, before_moves, arrived, take_named, named_by_number, take_move}
 use Rattle.board.specs.Faults.{Underway, Over, GoesFrom, GoesSomewhere, Refused, bad_move, not_here, not_now, bad_close, bad_end, too_deep}
 use Rattle.board.proofs.Checking.Accepting.{err_ok, accepts}
 use Rattle.board.proofs.Basics.Membership.{some_eq}
@@ -46,25 +46,25 @@ starts_last moments r (Some l) h = eq-eqb _ _ refl
 
 module _ (m : Meaning) (c : Content) (x : ℕ) where
   -- what is named goes from a place where it starts
-  goes_on : (n : Named) (p : Place) → names c x ≡ Some n → starts_at c.moments n p ≡ true → GoesFrom m c x p (leads m n p).effect
+  goes_on : (n : Named) (p : Place) → names c x ≡ Some n → starts_at c.moments n p ≡ true → GoesFrom m c x p (arrival_by m n p).effect
   goes_on n p e s = by_move (unpacked x) refl e
     where
-      by_move : (o : Option Move) → unpacked x ≡ o → named_by_number c o ≡ Some n → GoesFrom m c x p (leads m n p).effect
+      by_move : (o : Option Move) → unpacked x ≡ o → named_by_number c o ≡ Some n → GoesFrom m c x p (arrival_by m n p).effect
       by_move None u f = absurd (none-some n f)
-      by_move (Some v) u f = record { move = v; packs = u; to = (leads m n p).to; cost = (leads m n p).cost; goes = named_goes m c v p n f s }
+      by_move (Some v) u f = record { move = v; packs = u; to = (arrival_by m n p).to; cost = (arrival_by m n p).cost; goes = named_goes m c v p n f s }
 
   -- and there is one: in its row's mode, at the line's moment or at the last one
   goes_somewhere : Sound m c → (n : Named) → names c x ≡ Some n → GoesSomewhere m c x
   goes_somewhere sound n e =
       let p : Place = (n.row.from, start_moment c.moments n.line) in
-      (p, (leads m n p).effect, goes_on n p e (and_from _ _ (eq-eqb _ _ refl) (starts_last c.moments n.row n.line sound.some_moment)))
+      (p, (arrival_by m n p).effect, goes_on n p e (and_from _ _ (eq-eqb _ _ refl) (starts_last c.moments n.row n.line sound.some_moment)))
 
   -- What goes from a place, as the check sees it: it is named, starts there and leads on with this effect.
   record Starting (p : Place) (e : Effect) : Type 0 where
     name : Named
     named_so : names c x ≡ Some name
     starts : starts_at c.moments name p ≡ true
-    does : (leads m name p).effect ≡ e
+    does : (arrival_by m name p).effect ≡ e
 
   -- and so it is
   starting : (p : Place) (e : Effect) → GoesFrom m c x p e → Starting p e
@@ -102,7 +102,7 @@ module _ (m : Meaning) (c : Content) (x : ℕ) where
       let z = starting p a g in
       ap (take_named m c.moments (standing p st k)) z.named_so
       ∙ cond-false _ _ _ (not_from_true _ z.starts)
-      ∙ ap (arrived m k (leads m z.name p)) (ap (λ y. bracketed y st) z.does ∙ b)
+      ∙ ap (arrived m k (arrival_by m z.name p)) (ap (λ y. bracketed y st) z.does ∙ b)
 
 arrived_err : (m : Meaning) (k : ℕ) (a : Arrival) (o : Result (List ℕ) Refusal) (e : Refusal) → arrived m k a o ≡ Err e → o ≡ Err e
 arrived_err m k a (Ok st) e h = absurd (err_ok e _ (sym h))
@@ -126,17 +126,17 @@ same_first y a st rest e = cc
 
 module _ {m : Meaning} {c : Content} (before : List ℕ) where
   -- what was taken is under way
-  abbrev pub underway : {u : Progress} → Walk m c (start m) before u → u.ended ≡ false → Underway m c before
+  abbrev pub underway : {u : Progress} → Walk m c (before_moves m) before u → u.ended ≡ false → Underway m c before
   underway {u} walk n =
       let g = gone (omega arith) walk n in
       record { moves = g.moves; packs = g.packs; reached = u.place; costs = g.costs; effects = g.effects; path = g.path; running = g.running; unclosed = u.unclosed; brackets = g.brackets; shallow = g.shallow }
 
   -- or over
-  over : {u : Progress} → Walk m c (start m) before u → u.ended ≡ true → Over m c before
+  over : {u : Progress} → Walk m c (before_moves m) before u → u.ended ≡ true → Over m c before
   over {u} walk t = (u.cost, (accepts before u.cost).0 (walk_accepted 0 walk t))
 
   -- it is one of the two
-  came : (u : Progress) → Walk m c (start m) before u → Underway m c before ⊎ Over m c before
+  came : (u : Progress) → Walk m c (before_moves m) before u → Underway m c before ⊎ Over m c before
   came u walk = either u.ended refl
     where
       either : (b : Bool) → u.ended ≡ b → Underway m c before ⊎ Over m c before
@@ -144,11 +144,11 @@ module _ {m : Meaning} {c : Content} (before : List ℕ) where
       either false n = inl (underway walk n)
 
   -- and back
-  pub walk_under : (w : Underway m c before) → (k : ℕ) × Walk m c (start m) before (standing w.reached w.unclosed k)
+  pub walk_under : (w : Underway m c before) → (k : ℕ) × Walk m c (before_moves m) before (standing w.reached w.unclosed k)
   walk_under w = walked w.path w.running [] w.unclosed w.brackets w.shallow before w.packs m.free
 
-  walk_over : Over m c before → (u : Progress) × Walk m c (start m) before u × (u.ended ≡ true)
-  walk_over o = accepted_walk before (start m) 0 o.0 ((accepts before o.0).1 o.1)
+  walk_over : Over m c before → (u : Progress) × Walk m c (before_moves m) before u × (u.ended ≡ true)
+  walk_over o = accepted_walk before (before_moves m) 0 o.0 ((accepts before o.0).1 o.1)
 
   module _ (sound : Sound m c) (x : ℕ) where
     -- refused for its brackets
@@ -172,12 +172,12 @@ module _ {m : Meaning} {c : Content} (before : List ℕ) where
     by_effect e w Ends g (y ∷ st) s b = subst (Refused m c before x) (err_in _ _ b) (bad_end w g (λ h. no_one y st (sym h ∙ s)))
 
     -- a move that is not taken is refused for a reason
-    pub refused : (e : Refusal) (u : Progress) → Walk m c (start m) before u → take_move m c u x ≡ Err e → Refused m c before x e
+    pub refused : (e : Refusal) (u : Progress) → Walk m c (before_moves m) before u → take_move m c u x ≡ Err e → Refused m c before x e
     refused e u walk t = by_name (names c x) refl t
       where
-        by_place : (n : Named) → names c x ≡ Some n → (a b : Bool) → u.ended ≡ a → starts_at c.moments n u.place ≡ b → cond (a || not b) (Err NotNext) (arrived m u.cost (leads m n u.place) (bracketed (leads m n u.place).effect u.unclosed)) ≡ Err e → Refused m c before x e
+        by_place : (n : Named) → names c x ≡ Some n → (a b : Bool) → u.ended ≡ a → starts_at c.moments n u.place ≡ b → cond (a || not b) (Err NotNext) (arrived m u.cost (arrival_by m n u.place) (bracketed (arrival_by m n u.place).effect u.unclosed)) ≡ Err e → Refused m c before x e
         by_place n i true b ended s f = subst (Refused m c before x) (err_in _ _ f) (not_now (over walk ended) (goes_somewhere m c x sound n i))
-        by_place n i false true going s f = by_effect e (underway walk going) _ (goes_on m c x n u.place i s) u.unclosed refl (arrived_err m u.cost (leads m n u.place) _ e f)
+        by_place n i false true going s f = by_effect e (underway walk going) _ (goes_on m c x n u.place i s) u.unclosed refl (arrived_err m u.cost (arrival_by m n u.place) _ e f)
         by_place n i false false going s f = subst (Refused m c before x) (err_in _ _ f) (not_here (underway walk going) (goes_somewhere m c x sound n i) (from_elsewhere m c x n u.place i s))
 
         by_name : (o : Option Named) → names c x ≡ o → take_named m c.moments u o ≡ Err e → Refused m c before x e
@@ -185,10 +185,10 @@ module _ {m : Meaning} {c : Content} (before : List ℕ) where
         by_name (Some n) i f = by_place n i _ _ refl refl f
 
     -- and back
-    pub refusing : (e : Refusal) → Refused m c before x e → (u : Progress) × Walk m c (start m) before u × (take_move m c u x ≡ Err e)
+    pub refusing : (e : Refusal) → Refused m c before x e → (u : Progress) × Walk m c (before_moves m) before u × (take_move m c u x ≡ Err e)
     refusing e (bad_move taken h) = ⊎_elim (λ w. refuse _ (walk_under w).1) (λ o. refuse _ (walk_over o).1) taken
       where
-        refuse : (u : Progress) → Walk m c (start m) before u → (u : Progress) × Walk m c (start m) before u × (take_move m c u x ≡ Err BadMove)
+        refuse : (u : Progress) → Walk m c (before_moves m) before u → (u : Progress) × Walk m c (before_moves m) before u × (take_move m c u x ≡ Err BadMove)
         refuse u walk = (u, walk, ap (take_named m c.moments u) (names_nothing m c x sound h))
     refusing e (not_here w s none) =
         let z = starting m c x s.0 s.1 s.2 in

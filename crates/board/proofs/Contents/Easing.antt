@@ -8,7 +8,7 @@ use Rattle.board.specs.declared.moves.Effect.{Effect}
 use Rattle.board.specs.Content.{Content, Sound}
 use Rattle.board.specs.Moves.{Place, moment, effect_of, effect, EndMoment, Untimed, Timed, Transition}
 use Rattle.board.specs.Paths.{Path, stop, go, Complete}
-use Rattle.board.specs.Settling.{Record, Settled, Answer}
+use Rattle.board.specs.Settling.{Record, SettledLog, AnswersCost}
 use Rattle.board.specs.Ease.{Eased, EasedRow}
 use Rattle.board.proofs.Basics.Laws.{no_dearer_same, join_no_dearer}
 use Rattle.board.proofs.Paths.Decomposing.{transition_cost}
@@ -71,7 +71,7 @@ module _ {m : Meaning} {c c' : Content} (laws : Lawful m) (sound : Sound m c) (s
       let p = path' m.free m.free laws.free_cost laws.free_cost (no_dearer_same laws _ laws.free_cost) h.path in
       (joined m p.0, record { costs = p.0; body = h.body; stops = h.stops; path = p.1; balanced = h.balanced; running = h.running; price = refl }, subst (λ z. NoDearer m (joined m p.0) z) (sym h.price) p.2)
 
-  pub answer_eased : {log log' : List Record} {k k' : ℕ} → Settled m c log → Settled m c' log' → Answer m c log k → Answer m c' log' k' → NoDearer m k' k
+  pub answer_eased : {log log' : List Record} {k k' : ℕ} → SettledLog m c log → SettledLog m c' log' → AnswersCost m c log k → AnswersCost m c' log' k' → NoDearer m k' k
   answer_eased {k = k} {k' = k'} d d' (inl r) a' =
       let h = complete' (recorded_complete laws sound d r.1) in
       laws.trans k' h.0 k (answer_cost laws sound' d' a') (complete_cost laws sound' h.1) (answer_cost laws sound d (inl r)) (answer_least laws sound' d' a' h.1) h.2

@@ -17,7 +17,7 @@ use Rattle.board.specs.Settling.{Record, Derivation, by_step, by_call, bare, cal
 use Rattle.board.specs.Logged.{derivation_of, record_of, records}
 use Rattle.board.specs.Logs.{numbered, nth_record, Ready, pair_of}
 use Rattle.board.specs.Minima.{Link, StandsFor}
-use Rattle.board.specs.Winning.{GoalOn, Makes, made, Wins, Finds, CallAt, CallsBy, CallsOpened, Calls, Gathered, TightAt, Brackets, ServeIn, is_close, closes_to}
+use Rattle.board.specs.Winning.{GoalOn, Makes, made, Wins, Finds, CallAt, CallsBy, CallsOpened, Calls, Gathered, TightAt, BracketRows, ServeIn, is_close, closes_to}
 use Rattle.board.proofs.Paths.Standing.{leaves_on, enters_on}
 use Rattle.board.proofs.Basics.Laws.{no_dearer_same}
 use Rattle.board.proofs.Basics.Membership.{some_eq, none_some}
@@ -224,7 +224,7 @@ module _ {m : Meaning} {c : Content} {l : Log} (laws : Lawful m) (ready : Ready 
               both_ways _ (ap (λ (n : ℕ). m.no_dearer n g.cost) (sym here) ∙ dear) low
 
     -- a close row beside it
-    module _ (w : ℕ) (b : Row) (rows : Brackets c g o w a b) where
+    module _ (w : ℕ) (b : Row) (rows : BracketRows c g o w a b) where
       inside_to : {t : ℕ} (x : CallParts m c l g o w t) → (numbered l x.inside).to ≡ (b.from, moment g.to)
       inside_to x = place_eq (numbered l x.inside).to (b.from, moment g.to) (bracket_leaves w b rows.closing x.closes) (bracket_alone (closes_not_quiet x.bracket) x.closes).1
 
@@ -289,7 +289,7 @@ module _ {m : Meaning} {c : Content} {l : Log} (laws : Lawful m) (ready : Ready 
           later y t d h = subst₂ (λ (x z : Derivation). Lex (derivation_key x) (derivation_key z)) (sym wins.one) (sym d) (inr (refl, inr (refl, inr (refl, inl h))))
 
     -- which close rows serve
-    pub brackets : (w : ℕ) (b : Row) → slice_get c.rows w ≡ Some b → closes_to b a.label (mode g.to) ≡ true → Brackets c g o w a b
+    pub brackets : (w : ℕ) (b : Row) → slice_get c.rows w ≡ Some b → closes_to b a.label (mode g.to) ≡ true → BracketRows c g o w a b
     brackets w b e f =
         let p1 = and_parts _ _ f in
         let p2 = and_parts _ _ p1.1 in

@@ -11,7 +11,7 @@ use Rattle.board.specs.declared.settling.Goal.{Goal}
 use Rattle.board.specs.declared.settling.Minima.{Minima}
 use Rattle.board.specs.Content.{Content}
 use Rattle.board.specs.Moves.{Place, moment, On, place_number, Transition}
-use Rattle.board.specs.Settling.{Record, Derivation, bare, Candidate, step, call, Cheaper, Lex, key, derivation_key, Precedes, Unsettled, Round}
+use Rattle.board.specs.Settling.{Record, Derivation, bare, Candidate, step, call, Cheaper, Lex, key, derivation_key, Precedes, Unrecorded, Round}
 use Rattle.board.specs.Logged.{record_of, records}
 use Rattle.board.specs.Logs.{numbered, nth_record, Kept, pair_of}
 use Rattle.board.specs.Minima.{Link, CandidateAt, State}
@@ -105,7 +105,7 @@ module _ {m : Meaning} {c : Content} {l : Log} {s : Minima} (laws : Lawful m) (s
   pair_small {y} k = let on = candidate_on k in pair_in c y.from y.to state.ready.sound.few_places on.0 on.1
 
   -- an unsettled pair has no number
-  unnumbered : (y : Record) → Candidate m c (records l) y → Unsettled (records l) y.from y.to → get_or l.index (pair_of c y.from y.to) None ≡ None
+  unnumbered : (y : Record) → Candidate m c (records l) y → Unrecorded (records l) y.from y.to → get_or l.index (pair_of c y.from y.to) None ≡ None
   unnumbered y k u = by _ refl
     where
       by : (o : Option ℕ) → get_or l.index (pair_of c y.from y.to) None ≡ o → get_or l.index (pair_of c y.from y.to) None ≡ None
@@ -117,7 +117,7 @@ module _ {m : Meaning} {c : Content} {l : Log} {s : Minima} (laws : Lawful m) (s
           let z = pair_parts c (numbered l i).from (numbered l i).to y.from y.to state.ready.sound.few_places kept.to_on on.1 f.1 in
           absurd (u (nth_record l i) (in_logged l.entries l.count i f.0) (number_eq c _ _ kept.from_on on.0 z.0) (number_eq c _ _ kept.to_on on.1 z.1))
 
-  pub none_left : LeastOf m l s.waiting.costs 4096 None → (y : Record) → Candidate m c (records l) y → Unsettled (records l) y.from y.to → NoDearer m m.worst y.cost
+  pub none_left : LeastOf m l s.waiting.costs 4096 None → (y : Record) → Candidate m c (records l) y → Unrecorded (records l) y.from y.to → NoDearer m m.worst y.cost
   none_left k y i u = laws.trans _ _ _ laws.worst_cost (waiting_costs _ (pair_small i)) (candidate_cost laws state.ready.sound (all_priced laws state.ready) i) (k _ (pair_small i) (unnumbered y i u)) (covered i)
 
   -- the pair that was found
@@ -173,7 +173,7 @@ module _ {m : Meaning} {c : Content} {l : Log} {s : Minima} (laws : Lawful m) (s
           let to-same : y.to ≡ g.to = sym (number_eq c _ _ there.1 on.1 q.1) in
           inr (q.0, inr (q.1, wins.first y (record { candidate = i; starts = from-same; ends = to-same; costs = sym e }) tt))
 
-      goes_first : (y : Record) → Candidate m c (records l) y → Unsettled (records l) y.from y.to → Precedes m c (record_of (records l) (made g src)) y
+      goes_first : (y : Record) → Candidate m c (records l) y → Unrecorded (records l) y.from y.to → Precedes m c (record_of (records l) (made g src)) y
       goes_first y i u =
           let hy = candidate_cost laws state.ready.sound (all_priced laws state.ready) i in
           let pair = pair_of c y.from y.to in

@@ -14,7 +14,7 @@ use Rattle.board.specs.Settling.{Record, Candidate}
 use Rattle.board.specs.Logged.{spelled, record_of, records}
 use Rattle.board.specs.Logs.{numbered, Kept, Ready, pushed, empty, Refers, pair_of}
 use Rattle.board.specs.Lowering.{Costing, Attained, Bounds, Lowered}
-use Rattle.board.specs.Minima.{Plain, Bracketed, BracketedBy, BracketedIn, Link, CandidateAt, Followed, Linked, PlaceLeast, PlacesLeast, Led, State}
+use Rattle.board.specs.Minima.{PlainLink, Bracketed, BracketedBy, BracketedIn, Link, CandidateAt, Followed, Linked, PlaceLeast, PlacesLeast, Led, State}
 use Rattle.board.proofs.Basics.Laws.{no_dearer_eq, join_no_dearer}
 use Rattle.board.proofs.Paths.Decomposing.{transition_cost}
 use Rattle.board.proofs.Basics.Numbers.{number_in}
@@ -146,7 +146,7 @@ module _ {m : Meaning} {c : Content} (laws : Lawful m) (sound : Sound m c) where
   no_bracketed : (p k : ℕ) → Bracketed m c empty p k → ⊥
   no_bracketed p k (j, h, o, w, z) = omega arith
 
-  pub empty_state : (l : Log) (b d : ℕ) (links : List ℕ) (leads : List Bool) → l ≡ empty → b ≡ m.worst → d ≡ m.worst → Attained m (Plain m c) links → Bounds m (Plain m c) links → length links ≡ 4096 → Led m c leads → length leads ≡ 128 → State m c l (record { links = links; waiting = record { costs = replicate 4096 b; least = replicate 64 d }; leads = leads })
+  pub empty_state : (l : Log) (b d : ℕ) (links : List ℕ) (leads : List Bool) → l ≡ empty → b ≡ m.worst → d ≡ m.worst → Attained m (PlainLink m c) links → Bounds m (PlainLink m c) links → length links ≡ 4096 → Led m c leads → length leads ≡ 128 → State m c l (record { links = links; waiting = record { costs = replicate 4096 b; least = replicate 64 d }; leads = leads })
   empty_state l b d links leads e hb hd attained bounds long led leads-long = subst (λ (x : Log). State m c x (record { links = links; waiting = record { costs = replicate 4096 b; least = replicate 64 d }; leads = leads })) (sym e) (record {
     ready = record { sound = sound; book = empty_book m c };
     linked = record {

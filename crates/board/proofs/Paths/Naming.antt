@@ -14,7 +14,7 @@ use Rattle.board.specs.declared.moves.Arrival.{Arrival}
 use Rattle.board.specs.declared.named.Named.{Named}
 use Rattle.board.specs.Content.{Content}
 use Rattle.board.specs.Moves.{Place, mode, moment, effect, Untimed, Timed, Transition, EndMoment}
-use Rattle.board.specs.Arrivals.{alone, along, takes_line, named_line, named_by, named_row, named, timely, starts_at, leads}
+use Rattle.board.specs.Arrivals.{alone, along, takes_line, named_line, named_by, named_row, named, timely, starts_at, arrival_by}
 
 pub cond_some : {A : Type 0} (b : Bool) (x : Option A) (y : A) → cond b x None ≡ Some y → (b ≡ true) × (x ≡ Some y)
 cond_some true x y e = (refl, e)
@@ -58,7 +58,7 @@ timely_from End n t f = f refl
 
 module _ (m : Meaning) (c : Content) (v : Move) (p : Place) where
   abbrev Going : Named → Type 0
-  Going n = Transition m c v p (leads m n p).to (leads m n p).cost (leads m n p).effect
+  Going n = Transition m c v p (arrival_by m n p).to (arrival_by m n p).cost (arrival_by m n p).effect
 
   alone_goes : (r : Row) → slice_get c.rows v.row ≡ Some r → v.line ≡ None → (r.kind ≡ Plain → r.label ≡ 0) → starts_at c.moments (alone r) p ≡ true → Going (alone r)
   alone_goes r found bare no_event s =
@@ -93,7 +93,7 @@ module _ (m : Meaning) (c : Content) (v : Move) (p : Place) where
   by_row (Some r) n found e s = by_time r v.line n found refl e s
 
   -- what is named and starts at the place is a transition
-  pub named_goes : (n : Named) → named c v ≡ Some n → starts_at c.moments n p ≡ true → Transition m c v p (leads m n p).to (leads m n p).cost (leads m n p).effect
+  pub named_goes : (n : Named) → named c v ≡ Some n → starts_at c.moments n p ≡ true → Transition m c v p (arrival_by m n p).to (arrival_by m n p).cost (arrival_by m n p).effect
   named_goes n e s = by_row _ n refl e s
 
 arrival_eq : (a b : Arrival) → mode a.to ≡ mode b.to → moment a.to ≡ moment b.to → a.cost ≡ b.cost → a.effect ≡ b.effect → a ≡ b
@@ -104,7 +104,7 @@ pub record Passing (m : Meaning) (c : Content) (v : Move) (p : Place) (a : Arriv
   pub name : Named
   pub named_so : named c v ≡ Some name
   pub starts : starts_at c.moments name p ≡ true
-  pub leads_on : leads m name p ≡ a
+  pub leads_on : arrival_by m name p ≡ a
 
 module _ (m : Meaning) (c : Content) (v : Move) (p q : Place) (k : ℕ) (e : Effect) where
   from_untimed : (r : Row) → slice_get c.rows v.row ≡ Some r → mode p ≡ r.from → mode q ≡ r.to → e ≡ effect r → Untimed c r v.line (moment p) (moment q) k → Passing m c v p (record { to = q; cost = k; effect = e })

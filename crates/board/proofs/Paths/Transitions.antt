@@ -9,7 +9,7 @@ use Rattle.board.specs.declared.moves.Arrival.{Arrival}
 use Rattle.board.specs.declared.named.Named.{Named}
 use Rattle.board.specs.Content.{Content}
 use Rattle.board.specs.Moves.{Place, Transition}
-use Rattle.board.specs.Arrivals.{named, leads, arrival_of, arrival_on}
+use Rattle.board.specs.Arrivals.{named, arrival_by, arrival_of, arrival_on}
 use Rattle.board.proofs.Paths.Naming.{cond_some, named_goes, goes_named}
 
 module _ (m : Meaning) (c : Content) (v : Move) (p : Place) (h : Arrival) where
@@ -17,7 +17,7 @@ module _ (m : Meaning) (c : Content) (v : Move) (p : Place) (h : Arrival) where
   from_named None n e = absurd (none-some h e)
   from_named (Some a) n e =
       let z = cond_some _ _ _ e in
-      subst (λ (h : Arrival). Transition m c v p h.to h.cost h.effect) (same_Some (leads m a p) h z.1) (named_goes m c v p a n z.0)
+      subst (λ (h : Arrival). Transition m c v p h.to h.cost h.effect) (same_Some (arrival_by m a p) h z.1) (named_goes m c v p a n z.0)
 
   pub arrival_transition : arrival_on m c v p ≡ Some h → Transition m c v p h.to h.cost h.effect
   arrival_transition e = from_named _ refl e

@@ -14,9 +14,9 @@ use Rattle.board.specs.Content.{Content, Sound}
 use Rattle.board.specs.Moves.{Place, On, place_number}
 use Rattle.board.specs.Paths.{BalancedPath}
 use Rattle.board.specs.Packing.{packed}
-use Rattle.board.specs.Settling.{Record, Settled}
-use Rattle.board.specs.Computing.{record_between, ReadingFound, found}
-use Rattle.board.specs.Promises.{Cheapest}
+use Rattle.board.specs.Settling.{Record, SettledLog}
+use Rattle.board.specs.Computing.{record_between, ReadingFound, recorded_reading}
+use Rattle.board.specs.Promises.{RecordsAreLeast, RecordedIsCheapest}
 use Rattle.board.specs.Questions.{recorded_cost, between_answer, cost_told, cost_answer, fits, path_told, path_written, path_answer, path_after}
 use Rattle.board.specs.Meanings.{CostMeans, PathMeans, Pair, BetweenMeans}
 use Rattle.board.proofs.Basics.Membership.{none_some}
@@ -24,22 +24,22 @@ use Rattle.board.proofs.Questions.Finding.{joins_parts, between_some, between_is
 use Rattle.board.proofs.Basics.Numbers.{place_below}
 use Rattle.board.proofs.Promised.{settling_promises}
 
-module _ {m : Meaning} {c : Content} (laws : Lawful m) (sound : Sound m c) {log : List Record} (d : Settled m c log) where
-  promised : Cheapest m c log
+module _ {m : Meaning} {c : Content} (laws : Lawful m) (sound : Sound m c) {log : List Record} (d : SettledLog m c log) where
+  promised : RecordsAreLeast m c log × RecordedIsCheapest m c log
   promised = (settling_promises m c laws sound).1 log d
 
   -- cost
-  cost_by : (o : Option ReadingFound) → found m c log ≡ o → CostMeans m c log (cost_told o)
-  cost_by None e = (refl, promised.none.0 (found_none laws sound d.reached e))
+  cost_by : (o : Option ReadingFound) → recorded_reading m c log ≡ o → CostMeans m c log (cost_told o)
+  cost_by None e = (refl, promised.1.none.0 (found_none laws sound d.reached e))
   cost_by (Some f) e =
       let r = found_recorded laws sound d.reached f e in
       record {
         reading = f.moves;
         recorded = r;
-        complete = promised.complete _ _ r;
+        complete = promised.1.complete _ _ r;
         below = r.below;
         number = refl;
-        cheapest = λ other x h. promised.cheapest _ x _ other r h;
+        cheapest = λ other x h. promised.1.cheapest _ x _ other r h;
       }
 
   cost_means : CostMeans m c log (cost_answer m c log)
@@ -49,7 +49,7 @@ module _ {m : Meaning} {c : Content} (laws : Lawful m) (sound : Sound m c) {log 
   longer : (f : ReadingFound) (buffer : List ℕ) → fits f buffer ≡ false → (length buffer < length f.moves) ⊎ (65535 < length f.moves)
   longer f buffer e = ⊎_elim (λ h. inl (leb-false _ _ h)) (λ h. inr (leb-false _ _ h)) (and_cases _ _ e)
 
-  path_fits : (f : ReadingFound) (buffer : List ℕ) → found m c log ≡ Some f → (t : Bool) → fits f buffer ≡ t → PathMeans m c log buffer (cond t (Ok (length f.moves)) (Err TooLong)) (cond t (map packed f.moves ++ drop (length f.moves) buffer) buffer)
+  path_fits : (f : ReadingFound) (buffer : List ℕ) → recorded_reading m c log ≡ Some f → (t : Bool) → fits f buffer ≡ t → PathMeans m c log buffer (cond t (Ok (length f.moves)) (Err TooLong)) (cond t (map packed f.moves ++ drop (length f.moves) buffer) buffer)
   path_fits f buffer e true h =
       let r = found_recorded laws sound d.reached f e in
       let z = and_parts _ _ h in
@@ -57,18 +57,18 @@ module _ {m : Meaning} {c : Content} (laws : Lawful m) (sound : Sound m c) {log 
         cost = f.cost;
         reading = f.moves;
         recorded = r;
-        complete = promised.complete _ _ r;
-        cheapest = λ other x k. promised.cheapest _ x _ other r k;
+        complete = promised.1.complete _ _ r;
+        cheapest = λ other x k. promised.1.cheapest _ x _ other r k;
         room = leb-true _ _ z.0;
         few = leb-true _ _ z.1;
         number = refl;
         written = refl;
-        checked = promised.checked _ _ r;
+        checked = promised.1.checked _ _ r;
       }
   path_fits f buffer e false h = (inr (refl, record { cost = f.cost; reading = f.moves; recorded = found_recorded laws sound d.reached f e; longer = longer f buffer h }), refl)
 
-  path_by : (o : Option ReadingFound) (buffer : List ℕ) → found m c log ≡ o → PathMeans m c log buffer (path_told o buffer) (path_written o buffer)
-  path_by None buffer e = (inl (refl, promised.none.0 (found_none laws sound d.reached e)), refl)
+  path_by : (o : Option ReadingFound) (buffer : List ℕ) → recorded_reading m c log ≡ o → PathMeans m c log buffer (path_told o buffer) (path_written o buffer)
+  path_by None buffer e = (inl (refl, promised.1.none.0 (found_none laws sound d.reached e)), refl)
   path_by (Some f) buffer e = path_fits f buffer e (fits f buffer) refl
 
   path_means : (buffer : List ℕ) → PathMeans m c log buffer (path_answer m c log buffer) (path_after m c log buffer)
@@ -79,8 +79,8 @@ module _ {m : Meaning} {c : Content} (laws : Lawful m) (sound : Sound m c) {log 
   some_between s q a e =
       let h = between_some c log s q a e in
       let n = joins_parts c a s q h.1 in
-      let on = promised.placed a h.0 in
-      record { pair = record { first = a.from; second = a.to; first_on = on.0; second_on = on.1; first_number = n.0; second_number = n.1 }; least = promised.least a h.0; below = promised.below a h.0 }
+      let on = promised.0.placed a h.0 in
+      record { pair = record { first = a.from; second = a.to; first_on = on.0; second_on = on.1; first_number = n.0; second_number = n.1 }; least = promised.0.least a h.0; below = promised.0.below a h.0 }
 
   none_joins : (s q : ℕ) → record_between c log s q ≡ None → (p : Pair c s q) (vs : List Move) (k : ℕ) → BalancedPath m c vs p.first p.second k → NoDearer m m.worst k
   none_joins s q e p vs k path = by (m.no_dearer m.worst k) refl
@@ -88,7 +88,7 @@ module _ {m : Meaning} {c : Content} (laws : Lawful m) (sound : Sound m c) {log 
       by : (t : Bool) → m.no_dearer m.worst k ≡ t → NoDearer m m.worst k
       by true f = f
       by false f =
-          let w = promised.minimal vs p.first p.second k p.first_on path f in
+          let w = promised.0.minimal vs p.first p.second k p.first_on path f in
           absurd (none_some _ _ e (between_is laws sound d.reached w.held s q w.logged (ap (place_number c) w.leaves ∙ p.first_number) (ap (place_number c) w.enters ∙ p.second_number)))
 
   -- the place of a number

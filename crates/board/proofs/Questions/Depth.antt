@@ -10,7 +10,7 @@ use Rattle.board.specs.Moves.{Place, origin, effect}
 use Rattle.board.specs.Paths.{Path, stop, go, brackets, Balanced, stack, Complete}
 use Rattle.board.specs.Packing.{packed}
 use Rattle.board.specs.Accepted.{ShallowFrom}
-use Rattle.board.specs.Settling.{In, Record, start_record, diagonal, Candidate, step, call, Rounds, begin, round, Settled, ReadingBy}
+use Rattle.board.specs.Settling.{In, Record, start_record, diagonal, Candidate, step, call, Rounds, begin, round, SettledLog, ReadingBy}
 use Rattle.board.specs.Computing.{pair_count}
 use Rattle.board.specs.Promises.{RecordedIsChecked}
 use Rattle.board.proofs.Basics.Membership.{some_eq}
@@ -141,5 +141,5 @@ module _ {m : Meaning} {c : Content} (laws : Lawful m) (sound : Sound m c) where
   pub rounds_few : {n : ℕ} {log : List Record} → Rounds m c n log → n ≤ 4096
   rounds_few s = let h = rounds_open s in let k = mul-le-mul sound.few_places sound.few_places in omega arith
 
-  pub settled_checked : {log : List Record} → Settled m c log → RecordedIsChecked m c log
+  pub settled_checked : {log : List Record} → SettledLog m c log → RecordedIsChecked m c log
   settled_checked d = recorded_checked d.reached (rounds_few d.reached)

@@ -10,9 +10,9 @@ use Rattle.board.specs.declared.moves.Effect.TheVariants.{Ends}
 use Rattle.board.specs.declared.moves.Arrival.{Arrival}
 use Rattle.board.specs.Content.{Content, Sound}
 use Rattle.board.specs.Moves.{Place, mode, moment, origin, place_number, On, Transition, is_end}
-use Rattle.board.specs.Settling.{Cheaper, In, bare, Record, Rounds, Settled, ReadingBy, RecordedReading, HasNoReading, Answer}
+use Rattle.board.specs.Settling.{Cheaper, In, bare, Record, Rounds, SettledLog, ReadingBy, RecordedReading, HasNoReading, AnswersCost}
 use Rattle.board.specs.Arrivals.{arrival_on}
-use Rattle.board.specs.Computing.{joins?, record_between, ReadingFound, ending, reading_at, better, best_moments, mode_left, best_rows, found}
+use Rattle.board.specs.Computing.{joins?, record_between, ReadingFound, ending, reading_at, better, best_moments, mode_left, best_rows, recorded_reading}
 use Rattle.board.specs.Promises.{Computed}
 use Rattle.board.proofs.Basics.Laws.{cheaper_no_dearer, no_dearer_eq, cheaper_up, cheaper_or}
 use Rattle.board.proofs.Basics.Membership.{none_some}
@@ -230,19 +230,19 @@ module _ {m : Meaning} {c : Content} (laws : Lawful m) (sound : Sound m c) {roun
   none_scan None s e = λ i n ws r. s i n ws r (all_scanned i n ws r)
   none_scan (Some f) s e = absurd (none_some _ f e refl)
 
-  pub found_recorded : (x : ReadingFound) → found m c log ≡ Some x → RecordedReading m c log x.cost x.moves
-  unfolding found
+  pub found_recorded : (x : ReadingFound) → recorded_reading m c log ≡ Some x → RecordedReading m c log x.cost x.moves
+  unfolding recorded_reading
   found_recorded x e = from_scan _ (rows_scanned (length c.rows)) x e
 
-  pub found_none : found m c log ≡ None → HasNoReading m c log
-  unfolding found
+  pub found_none : recorded_reading m c log ≡ None → HasNoReading m c log
+  unfolding recorded_reading
   found_none e = none_scan _ (rows_scanned (length c.rows)) e
 
   -- there always is an answer
-  pub answered : (k : ℕ) × Answer m c log k
-  answered = either (found m c log) refl
+  pub answered : (k : ℕ) × AnswersCost m c log k
+  answered = either (recorded_reading m c log) refl
     where
-      either : (o : Option ReadingFound) → found m c log ≡ o → (k : ℕ) × Answer m c log k
+      either : (o : Option ReadingFound) → recorded_reading m c log ≡ o → (k : ℕ) × AnswersCost m c log k
       either None e = (m.worst, inr (found_none e, refl))
       either (Some x) e = (x.cost, inl (x.moves, found_recorded x e))
 
@@ -251,20 +251,20 @@ not_both : {m : Meaning} {c : Content} {log : List Record} {k : ℕ} {vs : List 
 not_both r none = both_ways _ r.below (none r.last _ _ r.reads)
 
 module _ {m : Meaning} {c : Content} (laws : Lawful m) (sound : Sound m c) where
-  recorded_found : {log : List Record} {k : ℕ} {vs : List Move} → Settled m c log → RecordedReading m c log k vs → (i : ℕ) × (found m c log ≡ Some (record { row = i; cost = k; moves = vs }))
-  recorded_found {log} {k} {vs} d r = either (found m c log) refl
+  recorded_found : {log : List Record} {k : ℕ} {vs : List Move} → SettledLog m c log → RecordedReading m c log k vs → (i : ℕ) × (recorded_reading m c log ≡ Some (record { row = i; cost = k; moves = vs }))
+  recorded_found {log} {k} {vs} d r = either (recorded_reading m c log) refl
     where
-      either : (o : Option ReadingFound) → found m c log ≡ o → (i : ℕ) × (found m c log ≡ Some (record { row = i; cost = k; moves = vs }))
+      either : (o : Option ReadingFound) → recorded_reading m c log ≡ o → (i : ℕ) × (recorded_reading m c log ≡ Some (record { row = i; cost = k; moves = vs }))
       either None e = absurd (not_both r (found_none laws sound d.reached e))
       either (Some x) e =
           let same = one_reading laws sound d (found_recorded laws sound d.reached x e) r in
           let is : x ≡ the_found x.row k vs = λ j. the_found x.row (same.0 j) (same.1 j) in
           (x.row, e ∙ ap Some is)
 
-  none_found : {log : List Record} → Settled m c log → HasNoReading m c log → found m c log ≡ None
-  none_found {log} d none = either (found m c log) refl
+  none_found : {log : List Record} → SettledLog m c log → HasNoReading m c log → recorded_reading m c log ≡ None
+  none_found {log} d none = either (recorded_reading m c log) refl
     where
-      either : (o : Option ReadingFound) → found m c log ≡ o → found m c log ≡ None
+      either : (o : Option ReadingFound) → recorded_reading m c log ≡ o → recorded_reading m c log ≡ None
       either None e = e
       either (Some x) e = absurd (not_both (found_recorded laws sound d.reached x e) none)
 

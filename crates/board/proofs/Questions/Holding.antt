@@ -10,7 +10,7 @@ use Rattle.board.specs.declared.settled.Settled.{Settled}
 use Rattle.board.specs.Content.{Content}
 use Rattle.board.specs.Logged.{logged, records}
 use Rattle.board.specs.Logs.{Book, numbered, nth_record, pair_of}
-use Rattle.board.specs.Settling.{Settled as SettledLog}
+use Rattle.board.specs.Settling.{SettledLog}
 use Rattle.board.specs.Boards.{settled_content, settled_records}
 use Rattle.board.specs.Entries.{EntryIn, entry_record}
 use Rattle.board.specs.Computing.{joins?, record_between}

@@ -13,7 +13,7 @@ use Rattle.board.specs.Rows.{formed}
 use Rattle.board.specs.Content.{Content, Sound}
 use Rattle.board.specs.Moves.{Place, origin, effect_of, Transition}
 use Rattle.board.specs.Paths.{Path, stop, go, Dyck, empty, Balanced, BalancedPath, Complete}
-use Rattle.board.specs.Settling.{Cheaper, bare, Record, Rounds, Settled, ReadingBy, RecordedReading, HasNoReading, Answer}
+use Rattle.board.specs.Settling.{Cheaper, bare, Record, Rounds, SettledLog, ReadingBy, RecordedReading, HasNoReading, AnswersCost}
 use Rattle.board.proofs.Basics.Joining.{joined_append}
 use Rattle.board.proofs.Basics.Laws.{no_dearer_eq, no_dearer_left, cheaper_no_dearer, cheaper_down}
 use Rattle.board.proofs.Rounds.Diagonal.{place_eq}
@@ -106,7 +106,7 @@ module _ {m : Meaning} {c : Content} (laws : Lawful m) (sound : Sound m c) where
     within : NoDearer m cost k
 
   -- a complete reading below the worst has a reading of the log that is no dearer
-  reading_of : {log : List Record} {k : ℕ} {vs : List Move} → Settled m c log → Complete m c vs k → Cheaper m k m.worst → ReadingWithin log k
+  reading_of : {log : List Record} {k : ℕ} {vs : List Move} → SettledLog m c log → Complete m c vs k → Cheaper m k m.worst → ReadingWithin log k
   reading_of {log} {k} {vs} d h below =
       let z = last_move h.body Ends h.path refl in
       let balanced : Balanced h.body = subst Dyck (brackets-++ h.body (Ends ∷ []) ∙ append-nil _) h.balanced in
@@ -132,11 +132,11 @@ module _ {m : Meaning} {c : Content} (laws : Lawful m) (sound : Sound m c) where
   least_no_dearer k n last i hk hn (inl h) = cheaper_no_dearer laws k n hk hn h
   least_no_dearer k n last i hk hn (inr e) = no_dearer_eq laws k n hk e.0
 
-  pub recorded_complete : {log : List Record} {k : ℕ} {vs : List Move} → Settled m c log → RecordedReading m c log k vs → Complete m c vs k
+  pub recorded_complete : {log : List Record} {k : ℕ} {vs : List Move} → SettledLog m c log → RecordedReading m c log k vs → Complete m c vs k
   recorded_complete d r = reading_complete d.reached r.reads
 
   -- no complete reading is cheaper than the recorded one
-  pub recorded_cheapest : {log : List Record} {k n : ℕ} {vs ws : List Move} → Settled m c log → RecordedReading m c log k vs → Complete m c ws n → NoDearer m k n
+  pub recorded_cheapest : {log : List Record} {k n : ℕ} {vs ws : List Move} → SettledLog m c log → RecordedReading m c log k vs → Complete m c ws n → NoDearer m k n
   recorded_cheapest {log} {k} {n} d r h =
       let hk = reading_cost d.reached r.reads in
       let hn = complete_cost h in
@@ -147,7 +147,7 @@ module _ {m : Meaning} {c : Content} (laws : Lawful m) (sound : Sound m c) where
       ⊎_elim (λ (t : NoDearer m m.worst n). laws.trans k m.worst n hk laws.worst_cost hn (laws.worst_most k hk) t) by-log (cases_Bool (m.no_dearer m.worst n))
 
   -- there is no reading exactly if no complete reading costs less than the worst
-  pub none_complete : {log : List Record} → Settled m c log → HasNoReading m c log → (ws : List Move) (n : ℕ) → Complete m c ws n → NoDearer m m.worst n
+  pub none_complete : {log : List Record} → SettledLog m c log → HasNoReading m c log → (ws : List Move) (n : ℕ) → Complete m c ws n → NoDearer m m.worst n
   none_complete d u ws n h =
       let by-log : Cheaper m n m.worst → NoDearer m m.worst n = λ below.
       let z = reading_of d h below in
@@ -158,10 +158,10 @@ module _ {m : Meaning} {c : Content} (laws : Lawful m) (sound : Sound m c) where
   none_read s h i n ws r = h ws n (reading_complete s r)
 
   -- the answer is a cost, and no complete reading is cheaper
-  pub answer_cost : {log : List Record} {k : ℕ} → Settled m c log → Answer m c log k → Cost m k
+  pub answer_cost : {log : List Record} {k : ℕ} → SettledLog m c log → AnswersCost m c log k → Cost m k
   answer_cost d (inl r) = reading_cost d.reached r.1.reads
   answer_cost d (inr u) = subst (λ x. Cost m x) (sym u.1) laws.worst_cost
 
-  pub answer_least : {log : List Record} {k n : ℕ} {ws : List Move} → Settled m c log → Answer m c log k → Complete m c ws n → NoDearer m k n
+  pub answer_least : {log : List Record} {k n : ℕ} {ws : List Move} → SettledLog m c log → AnswersCost m c log k → Complete m c ws n → NoDearer m k n
   answer_least d (inl r) h = recorded_cheapest d r.1 h
   answer_least {n = n} {ws = ws} d (inr u) h = subst (λ x. NoDearer m x n) (sym u.1) (none_complete d u.0 ws n h)

@@ -8,7 +8,7 @@ use Rattle.board.specs.declared.reading.Reading.{Reading}
 use Rattle.board.specs.Entries.{ReadingIn, reading_of}
 use Rattle.board.specs.Content.{Content}
 use Rattle.board.specs.Settling.{Record}
-use Rattle.board.specs.Computing.{ReadingFound, reading_at, limit_by, better_by, better, best_moments, mode_left, best_rows, found}
+use Rattle.board.specs.Computing.{ReadingFound, reading_at, limit_by, better_by, better, best_moments, mode_left, best_rows, recorded_reading}
 use Rattle.std.proofs.lemmas.Option.{slice_get-get_or}
 
 -- no moments yet, and one more
@@ -32,8 +32,8 @@ rows_more m c log i u rs d x same h k l e =
     let row = ap (λ zs. slice_get zs i) (sym same) ∙ slice_get-get_or rs i d h in
     rw add-one (e ∙ ap (λ z. best_moments m c log i (get_or rs i d).from z (best_rows m c log i)) all ∙ ap (λ o. best_moments m c log i (mode_left o) c.moments (best_rows m c log i)) (sym row))
 
-pub rows_all : (m : Meaning) (c : Content) (log : List Record) (i : ℕ) (rs : List Row) (x : Option ReadingFound) → rs ≡ c.rows → i ≤ length rs → length rs ≤ i → x ≡ best_rows m c log i → x ≡ found m c log
-unfolding found
+pub rows_all : (m : Meaning) (c : Content) (log : List Record) (i : ℕ) (rs : List Row) (x : Option ReadingFound) → rs ≡ c.rows → i ≤ length rs → length rs ≤ i → x ≡ best_rows m c log i → x ≡ recorded_reading m c log
+unfolding recorded_reading
 rows_all m c log i rs x same h k e =
     let n : i ≡ length c.rows = omega (arith, ap length same) in
     e ∙ ap (best_rows m c log) n

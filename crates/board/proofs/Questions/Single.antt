@@ -11,7 +11,7 @@ use Rattle.board.specs.declared.moves.Arrival.{Arrival}
 use Rattle.board.specs.Content.{Content, Sound}
 use Rattle.board.specs.Moves.{Place, moment, EndMoment, Transition}
 use Rattle.board.specs.Paths.{Path, stop, go}
-use Rattle.board.specs.Settling.{Cheaper, bare, Record, Settled, ReadingBy, RecordedReading}
+use Rattle.board.specs.Settling.{Cheaper, bare, Record, SettledLog, ReadingBy, RecordedReading}
 use Rattle.board.specs.Arrivals.{arrival_on}
 use Rattle.board.specs.Promises.{OneCost}
 use Rattle.board.proofs.Basics.Laws.{no_dearer_same, cheaper_no_dearer}
@@ -32,7 +32,7 @@ module _ {m : Meaning} {c : Content} where
       place_eq p p' (g.leaves ∙ ap (λ (r : Row). r.from) same ∙ sym h.leaves) (omega (arith, eqb-true _ _ (end_moment g), eqb-true _ _ (end_moment h)))
 
   -- an end row has one reading
-  same_moves : {log : List Record} {i k k' : ℕ} {vs ws : List Move} → Settled m c log → ReadingBy m c log i k vs → ReadingBy m c log i k' ws → vs ≡ ws
+  same_moves : {log : List Record} {i k k' : ℕ} {vs ws : List Move} → SettledLog m c log → ReadingBy m c log i k vs → ReadingBy m c log i k' ws → vs ≡ ws
   same_moves {i = i} d r s =
       let held : r.held ≡ s.held = distinct d.reached r.held s.held r.logged s.logged (r.starts_0 ∙ sym s.starts_0) (end_place r.over s.over) in
       r.moves_are ∙ ap (λ (a : Record). a.moves ++ (bare i ∷ [])) held ∙ sym s.moves_are
@@ -44,7 +44,7 @@ module _ {m : Meaning} {c : Content} (laws : Lawful m) (sound : Sound m c) where
   one_least k n i j hk hn (inr a) (inl b) = absurd (both_ways _ b (subst (λ x. NoDearer m k x) a.0 (no_dearer_same laws k hk)))
   one_least k n i j hk hn (inr a) (inr b) = (a.0, omega arith)
 
-  pub one_reading : {log : List Record} {k n : ℕ} {vs ws : List Move} → Settled m c log → RecordedReading m c log k vs → RecordedReading m c log n ws → (k ≡ n) × (vs ≡ ws)
+  pub one_reading : {log : List Record} {k n : ℕ} {vs ws : List Move} → SettledLog m c log → RecordedReading m c log k vs → RecordedReading m c log n ws → (k ≡ n) × (vs ≡ ws)
   one_reading {log} {k} {n} {vs} {ws} d r s =
       let e = one_least k n r.last s.last (reading_cost laws sound d.reached r.reads) (reading_cost laws sound d.reached s.reads) (r.least _ _ _ s.reads) (s.least _ _ _ r.reads) in
       let reads : ReadingBy m c log r.last n ws = subst (λ i. ReadingBy m c log i n ws) (sym e.1) s.reads in

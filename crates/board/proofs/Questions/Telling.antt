@@ -14,7 +14,7 @@ use Rattle.board.specs.declared.reading.Reading.{Reading}
 use Rattle.board.specs.Packing.{packed, Small}
 use Rattle.board.specs.Settling.{bare}
 use Rattle.board.specs.Logs.{nth_record}
-use Rattle.board.specs.Computing.{ReadingFound, found}
+use Rattle.board.specs.Computing.{ReadingFound, recorded_reading}
 use Rattle.board.specs.Boards.{settled_content, settled_records}
 use Rattle.board.specs.Questions.{fits, path_told, path_written, path_answer, path_after}
 
@@ -63,5 +63,5 @@ module _ {K : Type 0} {k : Ghosts K} (laws : Lawful k.meaning) (s : Settled K k)
   pub told_small : (i : ℕ) → i < length (moves_at s.log r.entry) → Small (move_of s.log r.entry i)
   told_small = let d = settled_of laws s in settled_small s.log r.entry laws s.tables.sound (d.rounds, d.reached) in_log
 
-  pub told_path : reading_of s.log w ≡ found k.meaning (settled_content s) (settled_records s) → (buffer out : List ℕ) (n x : ℕ) → get_or s.log.lengths r.entry 0 < length buffer → get_or s.log.lengths r.entry 0 < 65535 → n ≡ length (moves_at s.log r.entry) → out ≡ map packed (moves_at s.log r.entry) ++ drop (length (moves_at s.log r.entry)) buffer → x ≡ packed (bare r.row) → (Ok (n + 1) ≡ path_answer k.meaning (settled_content s) (settled_records s) buffer) × (set out n x ≡ path_after k.meaning (settled_content s) (settled_records s) buffer)
+  pub told_path : reading_of s.log w ≡ recorded_reading k.meaning (settled_content s) (settled_records s) → (buffer out : List ℕ) (n x : ℕ) → get_or s.log.lengths r.entry 0 < length buffer → get_or s.log.lengths r.entry 0 < 65535 → n ≡ length (moves_at s.log r.entry) → out ≡ map packed (moves_at s.log r.entry) ++ drop (length (moves_at s.log r.entry)) buffer → x ≡ packed (bare r.row) → (Ok (n + 1) ≡ path_answer k.meaning (settled_content s) (settled_records s) buffer) × (set out n x ≡ path_after k.meaning (settled_content s) (settled_records s) buffer)
   told_path which = path_short s.log r _ (ap (reading_of s.log) (sym w-is) ∙ which) _ (s.book.spells.lengths_are r.entry in_log)

@@ -4,7 +4,7 @@ use Rattle.std.proofs.lemmas.Bool.{cases_eq}
 use Rattle.costs.specs.Meaning.{Meaning}
 use Rattle.board.specs.Content.{Content}
 use Rattle.board.specs.Moves.{Place, mode, moment, On}
-use Rattle.board.specs.Settling.{In, Record, start_record, moments_of, places, starts, diagonal, Unsettled, Rounds, begin, round}
+use Rattle.board.specs.Settling.{In, Record, start_record, moments_of, places, starts, diagonal, Unrecorded, Rounds, begin, round}
 use Rattle.board.proofs.Basics.Membership.{in_left, in_right, in_split, in_map}
 
 pub place_eq : (p q : Place) → mode p ≡ mode q → moment p ≡ moment q → p ≡ q
@@ -62,13 +62,13 @@ place_cases p q = first (cases_eq (mode p) (mode q)) (cases_eq (moment p) (momen
     first (inl e) (inr g) = inr (λ h. g (ap (λ (x : Place). moment x) h))
     first (inr g) f = inr (λ h. g (ap (λ (x : Place). mode x) h))
 
-found : (x : Record) (log : List Record) (s q : Place) → (x.from ≡ s) ⊎ (x.from ≡ s → ⊥) → (x.to ≡ q) ⊎ (x.to ≡ q → ⊥) → Held log s q ⊎ Unsettled log s q → Held (x ∷ log) s q ⊎ Unsettled (x ∷ log) s q
+found : (x : Record) (log : List Record) (s q : Place) → (x.from ≡ s) ⊎ (x.from ≡ s → ⊥) → (x.to ≡ q) ⊎ (x.to ≡ q → ⊥) → Held log s q ⊎ Unrecorded log s q → Held (x ∷ log) s q ⊎ Unrecorded (x ∷ log) s q
 found x log s q (inl e) (inl f) h = inl (x, inl refl, e, f)
 found x log s q (inl e) (inr g) (inl h) = inl (h.0, inr h.1, h.2, h.3)
 found x log s q (inl e) (inr g) (inr u) = inr (λ a i e' f'. ⊎_elim (λ (z : a ≡ x). g (cc)) (λ h. u a h e' f') i)
 found x log s q (inr g) f (inl h) = inl (h.0, inr h.1, h.2, h.3)
 found x log s q (inr g) f (inr u) = inr (λ a i e' f'. ⊎_elim (λ (z : a ≡ x). g (cc)) (λ h. u a h e' f') i)
 
-pub find : (log : List Record) (s q : Place) → Held log s q ⊎ Unsettled log s q
+pub find : (log : List Record) (s q : Place) → Held log s q ⊎ Unrecorded log s q
 find [] s q = inr (λ a h e f. h)
 find (x ∷ log) s q = found x log s q (place_cases x.from s) (place_cases x.to q) (find log s q)

@@ -5,7 +5,7 @@ use Rattle.std.proofs.lemmas.Bool.{and_from, and_left, not_from_true}
 use Rattle.costs.specs.Meaning.{Meaning, Lawful}
 use Rattle.board.specs.Content.{Content, Sound}
 use Rattle.board.specs.Moves.{Place}
-use Rattle.board.specs.Settling.{In, Record, start, diagonal, moments_of, places, Round, Rounds, begin, round, Settled}
+use Rattle.board.specs.Settling.{In, Record, start, diagonal, moments_of, places, Round, Rounds, begin, round, SettledLog}
 use Rattle.board.specs.Computing.{same_place, unsettled?, next, run_on, run, pair_count, settled_log}
 use Rattle.board.proofs.Basics.Membership.{in_each}
 use Rattle.board.proofs.Rounds.Diagonal.{in_places}
@@ -115,7 +115,7 @@ module _ {m : Meaning} {c : Content} (laws : Lawful m) (sound : Sound m c) where
       further None e f = e
       further (Some x) e f = f x (next_round laws sound s e)
 
-  pub exists : Settled m c (settled_log m c)
+  pub exists : SettledLog m c (settled_log m c)
   unfolding settled_log
   exists =
       let few : open_in (diagonal m c) (board_pairs c) ≤ pair_count c = omega (arith, open_length (diagonal m c) (board_pairs c), length_board_pairs c) in

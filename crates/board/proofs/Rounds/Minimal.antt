@@ -7,7 +7,7 @@ use Rattle.board.specs.declared.moves.Effect.TheVariants.{Quiet, Opens, Closes}
 use Rattle.board.specs.Content.{Content, Sound}
 use Rattle.board.specs.Moves.{Place, On, Transition}
 use Rattle.board.specs.Paths.{BalancedPath}
-use Rattle.board.specs.Settling.{Cheaper, In, Record, start_record, diagonal, Candidate, step, call, Unsettled, Precedes, Round, Rounds, begin, round, Settled}
+use Rattle.board.specs.Settling.{Cheaper, In, Record, start_record, diagonal, Candidate, step, call, Unrecorded, Precedes, Round, Rounds, begin, round, SettledLog}
 use Rattle.board.specs.Promises.{RecordedWithin, LeastCost}
 use Rattle.board.proofs.Basics.Laws.{no_dearer_same, no_dearer_eq, no_dearer_left, cheaper_no_dearer, join_no_dearer, cheaper_down, free_below, call_first, call_second}
 use Rattle.board.proofs.Basics.Membership.{in_right}
@@ -33,7 +33,7 @@ module _ {m : Meaning} {c : Content} (laws : Lawful m) (sound : Sound m c) where
 
   -- No candidate for an unsettled pair is cheaper than a record, and none for a settled pair than that pair's record.
   Minimal : List Record → Type 0
-  Minimal log = (y : Record) → Candidate m c log y → (a : Record) → In a log → Unsettled log y.from y.to ⊎ ((a.from ≡ y.from) × (a.to ≡ y.to)) → NoDearer m a.cost y.cost
+  Minimal log = (y : Record) → Candidate m c log y → (a : Record) → In a log → Unrecorded log y.from y.to ⊎ ((a.from ≡ y.from) × (a.to ≡ y.to)) → NoDearer m a.cost y.cost
 
   no_dearer_at : (a x : Record) (k : ℕ) → a ≡ x → NoDearer m a.cost k → NoDearer m x.cost k
   no_dearer_at a x k e h = subst (λ (z : Record). NoDearer m z.cost k) e h
@@ -56,11 +56,11 @@ module _ {m : Meaning} {c : Content} (laws : Lawful m) (sound : Sound m c) where
     unfolding Minimal
     below_new a i = t x r.candidate a i (inl r.unsettled)
 
-    above_new : (y : Record) → Cost m y.cost → Candidate m c log y → Unsettled log y.from y.to → NoDearer m x.cost y.cost
+    above_new : (y : Record) → Cost m y.cost → Candidate m c log y → Unrecorded log y.from y.to → NoDearer m x.cost y.cost
     above_new y hy k u = precedes_no_dearer x y (p x (inl refl)) hy (r.first y k u)
 
     Fits : Record → Record → Type 0
-    Fits a y = Unsettled (x ∷ log) y.from y.to ⊎ ((a.from ≡ y.from) × (a.to ≡ y.to))
+    Fits a y = Unrecorded (x ∷ log) y.from y.to ⊎ ((a.from ≡ y.from) × (a.to ≡ y.to))
 
     old_old : (y : Record) → Candidate m c log y → (a : Record) → In a log → Fits a y → NoDearer m a.cost y.cost
     unfolding Minimal Fits
@@ -91,15 +91,15 @@ module _ {m : Meaning} {c : Content} (laws : Lawful m) (sound : Sound m c) where
   all_minimal (round s r) y k a i f = minimal_more (priced (round s r)) (all_minimal s) r y k a i f
 
   -- a candidate below the worst has a record no dearer
-  candidate_within : {log : List Record} → Settled m c log → (y : Record) → Candidate m c log y → Cheaper m y.cost m.worst → RecordedWithin m log y.from y.to y.cost
+  candidate_within : {log : List Record} → SettledLog m c log → (y : Record) → Candidate m c log y → Cheaper m y.cost m.worst → RecordedWithin m log y.from y.to y.cost
   unfolding Minimal
-  candidate_within {log} d y k below = ⊎_elim (λ (h : Held log y.from y.to). record { held = h.0; logged = h.1; leaves = h.2; enters = h.3; within = all_minimal d.reached y k h.0 h.1 (inr (h.2, h.3)) }) (λ (u : Unsettled log y.from y.to). absurd (both_ways _ below (d.done y k u))) (find log y.from y.to)
+  candidate_within {log} d y k below = ⊎_elim (λ (h : Held log y.from y.to). record { held = h.0; logged = h.1; leaves = h.2; enters = h.3; within = all_minimal d.reached y k h.0 h.1 (inr (h.2, h.3)) }) (λ (u : Unrecorded log y.from y.to). absurd (both_ways _ below (d.done y k u))) (find log y.from y.to)
 
   -- the same from an equal place and at a dearer cost
-  within_at : {log : List Record} {s s' q : Place} {k k' : ℕ} → Settled m c log → Cost m k → Cost m k' → s ≡ s' → NoDearer m k k' → RecordedWithin m log s q k → RecordedWithin m log s' q k'
+  within_at : {log : List Record} {s s' q : Place} {k k' : ℕ} → SettledLog m c log → Cost m k → Cost m k' → s ≡ s' → NoDearer m k k' → RecordedWithin m log s q k → RecordedWithin m log s' q k'
   within_at d hk hk' e w h = record { held = h.held; logged = h.logged; leaves = h.leaves ∙ e; enters = h.enters; within = laws.trans _ _ _ (priced d.reached h.held h.logged) hk hk' h.within w }
 
-  within_step : {log : List Record} {s r q : Place} {n k total : ℕ} {v : Move} → Settled m c log → Cost m n → RecordedWithin m log s r n → Transition m c v r q k Quiet → total ≡ m.join n k → Cheaper m total m.worst → RecordedWithin m log s q total
+  within_step : {log : List Record} {s r q : Place} {n k total : ℕ} {v : Move} → SettledLog m c log → Cost m n → RecordedWithin m log s r n → Transition m c v r q k Quiet → total ≡ m.join n k → Cheaper m total m.worst → RecordedWithin m log s q total
   within_step {log} {s} {r} {q} {n} {k} {total} {v} d hn h g e below =
       let a = h.held in
       let g' : Transition m c v a.to q k Quiet = subst (λ z. Transition m c v z q k Quiet) (sym h.enters) g in
@@ -110,7 +110,7 @@ module _ {m : Meaning} {c : Content} (laws : Lawful m) (sound : Sound m c) where
       let w : NoDearer m (m.join a.cost k) total = subst (λ z. NoDearer m (m.join a.cost k) z) (sym e) (laws.mono_left _ _ _ ha hn hk h.within) in
       within_at d y-cost t-cost h.leaves w (candidate_within d _ (step a h.logged g') (cheaper_down laws _ _ _ y-cost t-cost laws.worst_cost w below))
 
-  within_call : {log : List Record} {s r t u q : Place} {n k n' l b total : ℕ} {o w : Move} → Settled m c log → Cost m n → Cost m n' → RecordedWithin m log s r n → Transition m c o r t k (Opens b) → RecordedWithin m log t u n' → Transition m c w u q l (Closes b) → total ≡ m.join (m.join (m.join n k) n') l → Cheaper m total m.worst → RecordedWithin m log s q total
+  within_call : {log : List Record} {s r t u q : Place} {n k n' l b total : ℕ} {o w : Move} → SettledLog m c log → Cost m n → Cost m n' → RecordedWithin m log s r n → Transition m c o r t k (Opens b) → RecordedWithin m log t u n' → Transition m c w u q l (Closes b) → total ≡ m.join (m.join (m.join n k) n') l → Cheaper m total m.worst → RecordedWithin m log s q total
   within_call {log} {s} {r} {t} {u} {q} {n} {k} {n'} {l} {b} {total} {o} {w} d hn hn' h g h' g' e below =
       let x = h.held in
       let y = h'.held in
@@ -134,7 +134,7 @@ module _ {m : Meaning} {c : Content} (laws : Lawful m) (sound : Sound m c) where
   cheaper_eq : (a b w : ℕ) → Cost m a → Cost m b → Cost m w → (x : ℕ) → x ≡ b → NoDearer m a b → Cheaper m x w → Cheaper m a w
   cheaper_eq a b w ha hb hw x e h below = cheaper_down laws a b w ha hb hw h (subst (λ z. Cheaper m z w) e below)
 
-  grown_within : {log : List Record} {s q : Place} {k : ℕ} → Settled m c log → GrownPath m c s q k → On c s → Cheaper m k m.worst → RecordedWithin m log s q k
+  grown_within : {log : List Record} {s q : Place} {k : ℕ} → SettledLog m c log → GrownPath m c s q k → On c s → Cheaper m k m.worst → RecordedWithin m log s q k
   grown_within {s = s} {k = k} d (none_yet e) on below = record { held = start_record m s; logged = in_rounds s d.reached on; leaves = refl; enters = refl; within = subst (λ z. NoDearer m m.free z) (sym e) (no_dearer_same laws _ laws.free_cost) }
   grown_within d (then_step r g e) on below =
       let hn = grown_cost laws sound r in
@@ -149,13 +149,13 @@ module _ {m : Meaning} {c : Content} (laws : Lawful m) (sound : Sound m c) where
       let hw = laws.worst_cost in
       within_call d hn hn' (grown_within d r on (cheaper_eq _ _ _ hn ht hw _ e (call_first laws _ _ _ _ hn hk hn' hl) below)) g (grown_within d r' (transition_to sound g) (cheaper_eq _ _ _ hn' ht hw _ e (call_second laws _ _ _ _ hn hk hn' hl) below)) g' e below
 
-  pub minimal : {log : List Record} {vs : List Move} {s q : Place} {k : ℕ} → Settled m c log → On c s → BalancedPath m c vs s q k → Cheaper m k m.worst → RecordedWithin m log s q k
+  pub minimal : {log : List Record} {vs : List Move} {s q : Place} {k : ℕ} → SettledLog m c log → On c s → BalancedPath m c vs s q k → Cheaper m k m.worst → RecordedWithin m log s q k
   minimal {log} {s = s} {q = q} d on b below =
       let w = grown_within d (grown_of laws sound b.path b.balanced b.running) on (subst (λ z. Cheaper m z m.worst) b.price below) in
       subst (λ z. RecordedWithin m log s q z) (sym b.price) w
 
   -- a record's cost is the least cost of its pair
-  pub least_cost : {log : List Record} → Settled m c log → (a : Record) → In a log → On c a.from → LeastCost m c a.from a.to a.cost
+  pub least_cost : {log : List Record} → SettledLog m c log → (a : Record) → In a log → On c a.from → LeastCost m c a.from a.to a.cost
   least_cost {log} d a i on = record { moves = a.moves; path = spelled laws sound d.reached a i; least = no_less }
     where
       ha : Cost m a.cost

@@ -5,7 +5,7 @@ use Rattle.std.proofs.lemmas.Bool.{both_ways, and_parts, and_from, not-true, eq-
 use Rattle.costs.specs.Meaning.{Meaning, Lawful, Cost, NoDearer}
 use Rattle.board.specs.Content.{Content, Sound}
 use Rattle.board.specs.Moves.{Place, mode, moment}
-use Rattle.board.specs.Settling.{Cheaper, In, Record, Unsettled, Precedes, Round, Rounds, round, Settled}
+use Rattle.board.specs.Settling.{Cheaper, In, Record, Unrecorded, Precedes, Round, Rounds, round, SettledLog}
 use Rattle.board.specs.Computing.{same_place, unsettled?, candidates, precedes?, first_by, next_of, next, run_on, run}
 use Rattle.board.proofs.Basics.Laws.{no_dearer_eq, cheaper_no_dearer}
 use Rattle.board.proofs.Rounds.Candidates.{listed, unlisted, same_place_eq}
@@ -15,7 +15,7 @@ use Rattle.board.proofs.Rounds.Precedence.{first_candidate}
 pub place_same : (p q : Place) → p ≡ q → same_place p q ≡ true
 place_same p q e = and_from _ _ (eq-eqb (mode p) (mode q) (ap (λ (x : Place). mode x) e)) (eq-eqb (moment p) (moment q) (ap (λ (x : Place). moment x) e))
 
-unsettled_true : (log : List Record) (x : Record) → unsettled? log x ≡ true → Unsettled log x.from x.to
+unsettled_true : (log : List Record) (x : Record) → unsettled? log x ≡ true → Unrecorded log x.from x.to
 unsettled_true [] x e a i f g = i
 unsettled_true (b ∷ log) x e a (inl i) f g =
     let z = and_parts _ _ e in
@@ -23,7 +23,7 @@ unsettled_true (b ∷ log) x e a (inl i) f g =
     both_ways _ (not-true _ z.0) same
 unsettled_true (b ∷ log) x e a (inr i) f g = unsettled_true log x (and_parts _ _ e).1 a i f g
 
-pub unsettled_from : (log : List Record) (x : Record) → Unsettled log x.from x.to → unsettled? log x ≡ true
+pub unsettled_from : (log : List Record) (x : Record) → Unrecorded log x.from x.to → unsettled? log x ≡ true
 unsettled_from [] x u = refl
 unsettled_from (b ∷ log) x u = and_from _ _ (apart (same_place b.from x.from && same_place b.to x.to) refl) (unsettled_from log x (λ a i. u a (inr i)))
   where
@@ -107,7 +107,7 @@ module _ {m : Meaning} {c : Content} (laws : Lawful m) (sound : Sound m c) where
           laws.trans _ _ _ laws.worst_cost hb (costs x i) g (within b hb (first.1 x i))
       stop? false g h = absurd cc
 
-  pub next_done : {n : ℕ} {log : List Record} → Rounds m c n log → next m c log ≡ None → Settled m c log
+  pub next_done : {n : ℕ} {log : List Record} → Rounds m c n log → next m c log ≡ None → SettledLog m c log
   next_done {n} {log} s e = record {
     rounds = n;
     reached = s;

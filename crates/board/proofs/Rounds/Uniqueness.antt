@@ -13,7 +13,7 @@ use Rattle.board.specs.declared.moves.Effect.{Effect}
 use Rattle.board.specs.declared.moves.Effect.TheVariants.{Quiet, Opens, Closes}
 use Rattle.board.specs.Content.{Content, Sound}
 use Rattle.board.specs.Moves.{Place, mode, moment, place_number, On, effect_of, Untimed, Timed, Transition}
-use Rattle.board.specs.Settling.{In, Record, step_record, call_record, Candidate, step, call, line_key, derivation_key, key, Precedes, Round, Rounds, begin, round, Settled}
+use Rattle.board.specs.Settling.{In, Record, step_record, call_record, Candidate, step, call, line_key, derivation_key, key, Precedes, Round, Rounds, begin, round, SettledLog}
 use Rattle.board.proofs.Basics.Laws.{no_dearer_eq, cheaper_no_dearer}
 use Rattle.board.proofs.Basics.Membership.{some_eq, none_some}
 use Rattle.board.proofs.Rounds.Diagonal.{place_eq}
@@ -148,7 +148,7 @@ module _ {m : Meaning} {c : Content} (laws : Lawful m) (sound : Sound m c) where
       cc
 
   -- a settled log comes after no fewer rounds than another
-  no_fewer : {n : ℕ} {log log' : List Record} (d : Settled m c log) → Rounds m c n log' → d.rounds < n → ⊥
+  no_fewer : {n : ℕ} {log log' : List Record} (d : SettledLog m c log) → Rounds m c n log' → d.rounds < n → ⊥
   no_fewer {log = log} d s' h =
       let z = round_after d.rounds s' h in
       let e : z.log ≡ log = same_rounds z.reached d.reached refl in
@@ -156,5 +156,5 @@ module _ {m : Meaning} {c : Content} (laws : Lawful m) (sound : Sound m c) where
       let r : Round m c log x = subst (λ l. Round m c l x) e z.round_is in
       both_ways _ r.below (d.done x r.candidate r.unsettled)
 
-  pub unique : {log log' : List Record} → Settled m c log → Settled m c log' → log ≡ log'
+  pub unique : {log log' : List Record} → SettledLog m c log → SettledLog m c log' → log ≡ log'
   unique d d' = ⊎_elim (λ (e : d.rounds ≡ d'.rounds). same_rounds d.reached d'.reached e) (λ (f : (d.rounds < d'.rounds) ⊎ (d'.rounds < d.rounds)). absurd (⊎_elim (no_fewer d d'.reached) (no_fewer d' d.reached) f)) (cases_order d.rounds d'.rounds)

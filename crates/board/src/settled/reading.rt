@@ -1,7 +1,7 @@
 // Finding the recorded reading.
 ghost use Rattle.std.specs.Prelude.{◌≡◌, length};
 ghost use Rattle.board.specs.Boards.{settled_content, settled_records};
-ghost use Rattle.board.specs.Computing.{record_between, reading_at, found};
+ghost use Rattle.board.specs.Computing.{record_between, reading_at, recorded_reading};
 ghost use Rattle.board.specs.Entries.{EntryIn, ReadingIn, entry_record, reading_of};
 
 use crate::bounds::PLACES;
@@ -39,7 +39,7 @@ impl<K: Kind> Settled<K> {
 
     // The recorded reading, if there is one.
     pub(crate) fn recorded(&self) -> Option<Reading>
-        ensures which { reading_of self.now.log result ≡ found K.meaning (settled_content self.now) (settled_records self.now) }
+        ensures which { reading_of self.now.log result ≡ recorded_reading K.meaning (settled_content self.now) (settled_records self.now) }
         ensures within { ReadingIn self.now.log.count (length self.now.tables.rows.items) result }
     {
         let mut best = None;

@@ -8,7 +8,7 @@ ghost use Rattle.board.specs.Logs.{pair_of};
 ghost use Rattle.board.specs.Lowering.{Bounds};
 ghost use Rattle.board.specs.Minima.{Link, Led};
 ghost use Rattle.board.specs.Minimizing.{LinksOf};
-ghost use Rattle.board.specs.Winning.{GoalOn, FindsOf, CallAt, CallsBy, CallsOpened, Calls, TightOf, Brackets, Serve, ServeIn};
+ghost use Rattle.board.specs.Winning.{GoalOn, FindsOf, CallAt, CallsBy, CallsOpened, Calls, TightOf, BracketRows, Serve, ServeIn};
 
 use crate::bounds::ROWS;
 use crate::log::Source;
@@ -20,7 +20,7 @@ impl<K: Kind> Known<'_, K> {
     // The call by the open row a and the close row b, of these numbers, that opens at the moment, if it makes the goal.
     fn call_at(&self, goal: Goal, o: u8, a: Row, w: u8, b: Row, moment: u8) -> Option<Source>
         requires on { GoalOn (held self.now.tables.now) goal }
-        requires rows { Brackets (held self.now.tables.now) goal o w a b }
+        requires rows { BracketRows (held self.now.tables.now) goal o w a b }
         requires moment { moment < (held self.now.tables.now).moments }
         ensures { FindsOf K.meaning self.now goal (CallAt o w moment) result }
     {
@@ -44,7 +44,7 @@ impl<K: Kind> Known<'_, K> {
     // The earliest call by the two rows that makes the goal.
     fn call_by(&self, goal: Goal, o: u8, a: Row, w: u8, b: Row, tight: &[u8]) -> Option<Source>
         requires on { GoalOn (held self.now.tables.now) goal }
-        requires rows { Brackets (held self.now.tables.now) goal o w a b }
+        requires rows { BracketRows (held self.now.tables.now) goal o w a b }
         requires tight { TightOf K.meaning self.now goal tight.now }
         ensures { FindsOf K.meaning self.now goal (CallsBy o w) result }
     {

@@ -2,7 +2,7 @@
 ghost use Rattle.std.specs.Prelude.{◌≡◌, ◌<◌, length};
 ghost use Rattle.board.specs.Held.{held};
 ghost use Rattle.board.specs.Lowering.{Attained, Lowered};
-ghost use Rattle.board.specs.Minima.{Plain, PlainlyFrom, PlainlyBy};
+ghost use Rattle.board.specs.Minima.{PlainLink, PlainlyFrom, PlainlyBy};
 
 use crate::bounds::PAIRS;
 use crate::moves::{Effect, Move, Place};
@@ -14,8 +14,8 @@ impl<K: Kind> Tables<K> {
     // Lowers the link that the move makes from the place, if it starts there and has no bracket.
     fn link_from(&self, v: Move, place: Place, links: &mut [u32])
         requires long { length links.old ≡ PAIRS }
-        requires ok { Attained K.meaning (Plain K.meaning (held self.now)) links.old }
-        ensures { Lowered K.meaning (Plain K.meaning (held self.now)) links.old links.new (PlainlyFrom K.meaning (held self.now) v place) }
+        requires ok { Attained K.meaning (PlainLink K.meaning (held self.now)) links.old }
+        ensures { Lowered K.meaning (PlainLink K.meaning (held self.now)) links.old links.new (PlainlyFrom K.meaning (held self.now) v place) }
     {
         if let Some(h) = self.arrival(v, place) {
             if let Effect::Quiet = h.effect {
@@ -27,8 +27,8 @@ impl<K: Kind> Tables<K> {
     // Lowers the links that the row makes, alone and with each line.
     fn links_by(&self, row: u8, links: &mut [u32])
         requires long { length links.old ≡ PAIRS }
-        requires ok { Attained K.meaning (Plain K.meaning (held self.now)) links.old }
-        ensures { Lowered K.meaning (Plain K.meaning (held self.now)) links.old links.new (PlainlyBy K.meaning (held self.now) row) }
+        requires ok { Attained K.meaning (PlainLink K.meaning (held self.now)) links.old }
+        ensures { Lowered K.meaning (PlainLink K.meaning (held self.now)) links.old links.new (PlainlyBy K.meaning (held self.now) row) }
     {
         let Some(r) = self.row(row) else {
             return;
@@ -51,8 +51,8 @@ impl<K: Kind> Tables<K> {
     // Lowers the links by all moves without brackets.
     pub(crate) fn add_links(&self, links: &mut [u32])
         requires long { length links.old ≡ PAIRS }
-        requires ok { Attained K.meaning (Plain K.meaning (held self.now)) links.old }
-        ensures { Lowered K.meaning (Plain K.meaning (held self.now)) links.old links.new (Plain K.meaning (held self.now)) }
+        requires ok { Attained K.meaning (PlainLink K.meaning (held self.now)) links.old }
+        ensures { Lowered K.meaning (PlainLink K.meaning (held self.now)) links.old links.new (PlainLink K.meaning (held self.now)) }
     {
         let rows = self.rows.len() as u8;
         for row in 0..rows {

@@ -1,7 +1,7 @@
 // Settling, entry by entry.
 ghost use Rattle.std.specs.Prelude.{◌≡◌, ◌+◌, [], ◌∷◌, None as ANone, slice_index_or};
 ghost use Rattle.board.specs.Held.{held};
-ghost use Rattle.board.specs.Settling.{Settled};
+ghost use Rattle.board.specs.Settling.{SettledLog};
 ghost use Rattle.board.specs.Logged.{record_of, records};
 ghost use Rattle.board.specs.Logs.{Kept, Book, Reached, RoundAdded, Refers, pair_of};
 ghost use Rattle.board.specs.Minima.{State};
@@ -114,7 +114,7 @@ impl Settling {
 // The settled log of the tables.
 pub(crate) fn settled_log<K: Kind>(tables: &Tables<K>) -> Log
     ensures book { Book K.meaning (held tables.now) result }
-    ensures settled { Settled K.meaning (held tables.now) (records result) }
+    ensures settled { SettledLog K.meaning (held tables.now) (records result) }
 {
     let mut settling = Settling::empty(tables);
     settling.begin(tables);

@@ -8,7 +8,7 @@ use Rattle.board.specs.Content.{Content, new}
 use Rattle.board.specs.Held.{draft_content}
 use Rattle.board.specs.Boards.{settled_content, settled_records}
 use Rattle.board.specs.Settling.{Record}
-use Rattle.board.specs.Promises.{BoardPromises}
+use Rattle.board.specs.Promises.{HoldsOfEveryContent}
 use Rattle.file.specs.declared.call.Call.{Call}
 use Rattle.file.specs.declared.call.Call.TheVariants as call
 use Rattle.file.specs.declared.boards.Board.{Board}
@@ -52,7 +52,7 @@ settled_told : (m : Meaning) (c : Content) (log : List Record) (x : Call) (buffe
 settled_told m c log call.Reopen buffer other = absurd (other refl)
 settled_told m c log x buffer other = refl
 
-module _ {K : Type 0} {k : Ghosts K} (laws : Lawful k.meaning) (promises : BoardPromises) where
+module _ {K : Type 0} {k : Ghosts K} (laws : Lawful k.meaning) (promises : HoldsOfEveryContent) where
   follows : (b : Board K k) (x : Call) (buffer : List ℕ) (after : Board K k) (told : Answer) (left : List ℕ) → state_of after ≡ stepped k.meaning (state_of b) x → told ≡ step_answer k.meaning (state_of b) (records_of b) x buffer → left ≡ step_buffer k.meaning (state_of b) (records_of b) x buffer → NoteStands k.meaning x told → Step k.meaning b x buffer after told left
   follows b x buffer after told left state answer written note = record {
     state = state;

@@ -13,11 +13,11 @@ use Rattle.board.specs.declared.refusal.Refusal.{Refusal}
 use Rattle.board.specs.declared.refusal.Refusal.TheVariants as refusal
 use Rattle.board.specs.declared.row.Row.{Row}
 use Rattle.board.specs.declared.row.Line.{Line}
-use Rattle.board.specs.Arrivals.{leads}
+use Rattle.board.specs.Arrivals.{arrival_by}
 use Rattle.board.specs.Content.{Content, new}
 use Rattle.board.specs.Calls.{size_fault, size_after, row_fault, row_after, line_fault, line_after, reprice_fault}
-use Rattle.board.specs.Checks.{bracketed, Progress, start, arrived, take_named, named_by_number, take_move, or_fault, checked_from, check_answer}
-use Rattle.board.specs.Computing.{ReadingFound, record_between, found}
+use Rattle.board.specs.Checks.{bracketed, Progress, before_moves, arrived, take_named, named_by_number, take_move, or_fault, checked_from, check_answer}
+use Rattle.board.specs.Computing.{ReadingFound, record_between, recorded_reading}
 use Rattle.board.specs.Packing.{unpacked}
 use Rattle.board.specs.Questions.{recorded_cost, cost_told, path_told, between_answer}
 use Rattle.board.specs.Refusals.{number, answer}
@@ -82,13 +82,13 @@ module _ (P : Refusal → Type 0) where
   size_new : (a b : ℕ) → P refusal.SizeOut → IfSome (size_fault new a b) P
   size_new a b k = search (rules, one_more P)
 
-  row : (m : Meaning) (c : Content) (r : Row) → P refusal.RowsFull → P refusal.ModeOut → P refusal.BadRow → P refusal.NoCost → IfSome (row_fault m c r) P
+  row : (m : Meaning) (c : Content) (r : Row) → P refusal.RowsFull → P refusal.ModeOut → P refusal.BadRow → P refusal.NotACost → IfSome (row_fault m c r) P
   row m c r h i j k = search (rules, one_more P)
 
-  line : (m : Meaning) (c : Content) (l : Line) → P refusal.LinesFull → P refusal.MomentOut → P refusal.NoEvent → P refusal.NoCost → IfSome (line_fault m c l) P
+  line : (m : Meaning) (c : Content) (l : Line) → P refusal.LinesFull → P refusal.MomentOut → P refusal.NoEvent → P refusal.NotACost → IfSome (line_fault m c l) P
   line m c l h i j k = search (rules, one_more P)
 
-  reprice : {A : Type 0} (m : Meaning) (xs : List A) (i k : ℕ) → P refusal.NoSuch → P refusal.NoCost → IfSome (reprice_fault m xs i k) P
+  reprice : {A : Type 0} (m : Meaning) (xs : List A) (i k : ℕ) → P refusal.NoSuch → P refusal.NotACost → IfSome (reprice_fault m xs i k) P
   reprice m xs i k h j = search (rules, one_more P)
 
 -- the questions
@@ -123,7 +123,7 @@ module _ (P : Refusal → Type 0) where
   taken : (m : Meaning) (c : Content) (w : Progress) (x : ℕ) → P refusal.BadMove → P refusal.NotNext → P refusal.BadBracket → P refusal.TooDeep → IfErr (take_move m c w x) P
   taken m c w x h i j k = elim (named_by_number c (unpacked x)) as (λ o. IfErr (take_named m c.moments w o) P) [
     | None ↦ h
-    | Some n ↦ either P _ (Err refusal.NotNext) _ i (arrives m w.cost (leads m n w.place) _ (brackets (leads m n w.place).effect w.unclosed j k))
+    | Some n ↦ either P _ (Err refusal.NotNext) _ i (arrives m w.cost (arrival_by m n w.place) _ (brackets (arrival_by m n w.place).effect w.unclosed j k))
   ]
 
   abbrev AtFault : Fault → Type 0
@@ -236,12 +236,12 @@ on_draft m c log (call.Load file) buffer n e =
 on_draft m c log x buffer n e = absurd cc
 
 on_settled : (m : Meaning) (c : Content) (log : List Record) (x : Call) (buffer : List ℕ) (n : ℕ) → refused_with (step_answer m (settled c) log x buffer) ≡ Some n → In n (can_give x)
-on_settled m c log call.Cost buffer n e = let ks = can_give call.Cost in given number (cost_told (found m c log)) ks n (costs (Has ks) (found m c log) refl) e
-on_settled m c log call.Path buffer n e = let ks = can_give call.Path in given number (path_told (found m c log) buffer) ks n (paths (Has ks) (found m c log) buffer refl refl) e
+on_settled m c log call.Cost buffer n e = let ks = can_give call.Cost in given number (cost_told (recorded_reading m c log)) ks n (costs (Has ks) (recorded_reading m c log) refl) e
+on_settled m c log call.Path buffer n e = let ks = can_give call.Path in given number (path_told (recorded_reading m c log) buffer) ks n (paths (Has ks) (recorded_reading m c log) buffer refl refl) e
 on_settled m c log (call.Between s q) buffer n e = let ks = can_give (call.Between s q) in given number (between_answer c log s q) ks n (betweens (Has ks) c log s q refl refl) e
 on_settled m c log (call.Check moves) buffer n e =
     let ks = can_give (call.Check moves) in
-    given (λ (f : Fault). number f.refusal) (check_answer m c moves.now) ks n (checks (Has ks) m c (start m) 0 moves.now refl refl refl refl refl) e
+    given (λ (f : Fault). number f.refusal) (check_answer m c moves.now) ks n (checks (Has ks) m c (before_moves m) 0 moves.now refl refl refl refl refl) e
 on_settled m c log x buffer n e = absurd cc
 
 pub gives_its_numbers : GivesItsNumbers

@@ -6,7 +6,7 @@ use Rattle.file.specs.declared.part.Part.{Part}
 use Rattle.file.specs.declared.refusal.LoadFault.{LoadFault}
 use Rattle.file.specs.Parts.{piece, answered}
 use Rattle.file.specs.Sections.{rows_code, lines_code, note_code}
-use Rattle.file.specs.Layout.{Description, held_in, row_bytes, line_bytes, one_byte, section_written, written, KeepsLimits, LoadsExactly, longest}
+use Rattle.file.specs.Layout.{Description, held_in, row_bytes, line_bytes, one_byte, section_written, written, KeepsLimits, LoadsExactly, longest_file}
 use Rattle.file.proofs.Loads.Tails.{each_length, bytes_written}
 
 -- a section of at most 128 rows or lines, each of eight bytes
@@ -19,7 +19,7 @@ note_length : (o : Option (List ℕ)) → length (held_in o) < 4096 → length (
 note_length None few = omega arith
 note_length (Some bs) few = omega (arith, ap length (bytes_written bs))
 
-written_length : (m : Meaning) (d : Description) → KeepsLimits m d → length (written d) ≤ longest
+written_length : (m : Meaning) (d : Description) → KeepsLimits m d → length (written d) ≤ longest_file
 written_length m d k =
     let rows = section_written rows_code row_bytes d.rows in
     let lines = section_written lines_code line_bytes d.lines in
@@ -29,8 +29,8 @@ written_length m d k =
     let c = note_length d.note k.note_fits in
     omega (arith, length-append rows (lines ++ note), length-append lines note)
 
-pub no_longer : (m : Meaning) (bs : List ℕ) (r : Result Part LoadFault) (after : Content) → LoadsExactly m bs (answered r) after → IfOk r (λ p. length bs ≤ longest)
+pub no_longer : (m : Meaning) (bs : List ℕ) (r : Result Part LoadFault) (after : Content) → LoadsExactly m bs (answered r) after → IfOk r (λ p. length bs ≤ longest_file)
 no_longer m bs (Ok p) after exact =
     let d = (exact after (piece p)).0 (refl, refl) in
-    subst (λ (ys : List ℕ). length ys ≤ longest) d.laid_out (written_length m d.description d.keeps)
+    subst (λ (ys : List ℕ). length ys ≤ longest_file) d.laid_out (written_length m d.description d.keeps)
 no_longer m bs (Err e) after exact = tt

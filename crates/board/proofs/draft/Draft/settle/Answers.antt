@@ -16,7 +16,12 @@ returns-clause-promises g c = board_promises
 pub returns-clause-example : goal.returns-clause-example
 returns-clause-example g c = settling_examples
 
+pub returns-clause-least : goal.returns-clause-least
+returns-clause-least g c =
+    let t = c.args.self.tables in
+    ((settling_promises g.K.Kind.meaning (held t) g.met.K.Kind.lawful t.sound).1 _ c.settled_log-log.ensures.settled).0
+
 pub returns-clause-cheapest : goal.returns-clause-cheapest
 returns-clause-cheapest g c =
     let t = c.args.self.tables in
-    (settling_promises g.K.Kind.meaning (held t) g.met.K.Kind.lawful t.sound).1 _ c.settled_log-log.ensures.settled
+    ((settling_promises g.K.Kind.meaning (held t) g.met.K.Kind.lawful t.sound).1 _ c.settled_log-log.ensures.settled).1
