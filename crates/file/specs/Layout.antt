@@ -1,6 +1,6 @@
 -- The layout of a file: what a file describes, how that is written in bytes, and the limits that it keeps.
 use Rattle.std.specs.Prelude.{◌≡◌, ℕ, zero, suc, ◌+◌, ◌-◌, ◌*◌, ◌/◌, ◌%◌, ◌^◌, ◌<◌, ◌≤◌, true, false, ◌↔◌, List, [], ◌∷◌, ◌++◌, map, length, Some, None, Ok, Option, Result}
-use Rattle.std.specs.List.{flat_map, AllByRecursion}
+use Rattle.std.specs.List.{flat_map, AllByRecursion, fold}
 use Rattle.costs.specs.Meaning.{Meaning, Cost}
 use Rattle.board.specs.declared.row.Row.{Row}
 use Rattle.board.specs.declared.row.Line.{Line}
@@ -33,8 +33,7 @@ Field = ℕ × ℕ
 
 -- the fields as one number, the first the most significant, with w in front
 abbrev pub word_onto : ℕ → List Field → ℕ
-word_onto w [] = w
-word_onto w (f ∷ fs) = word_onto (w * 2 ^ f.1 + f.0) fs
+word_onto w fs = fold (λ w f. w * 2 ^ f.1 + f.0) w fs
 
 abbrev pub word : List Field → ℕ
 word fs = word_onto 0 fs
