@@ -1,6 +1,8 @@
 -- Settling as functions, with which cases are computed: the candidates of a log, the rounds, and the recorded reading.
-use Rattle.std.specs.Prelude.{ℕ, zero, suc, ◌*◌, Bool, true, false, cond, not, ◌&&◌, List, [], ◌∷◌, ◌++◌, map, length, Some, None, Option, ◌==◌, nat_lt}
+use Rattle.std.specs.Prelude.{ℕ, zero, suc, ◌*◌, Bool, true, false, cond, not, ◌&&◌, List, [], ◌∷◌, ◌++◌, map, length, Some, None, Option, ◌==◌}
 use Rattle.std.specs.List.{filter, list_all, find, flat_map, fold}
+use Rattle.std.specs.Ordering.{is_le, nat_cmp}
+use Rattle.std.specs.Cmp.Lexicographic.{slice_cmp}
 use Rattle.costs.specs.Meaning.{Meaning}
 use Rattle.board.specs.declared.row.Row.{Row}
 use Rattle.board.specs.declared.moves.Move.{Move}
@@ -92,9 +94,7 @@ unsettled? log x = list_all (λ a. not (same_place a.from x.from && same_place a
 
 -- the test of the lexicographic order
 abbrev pub lex? : List ℕ → List ℕ → Bool
-lex? [] ys = true
-lex? (x ∷ xs) [] = false
-lex? (x ∷ xs) (y ∷ ys) = cond (nat_lt x y) true (cond (x == y) (lex? xs ys) false)
+lex? xs ys = is_le (slice_cmp nat_cmp xs ys)
 
 -- whether x precedes y
 abbrev pub precedes? : Meaning → Content → Record → Record → Bool

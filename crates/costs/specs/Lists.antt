@@ -1,16 +1,15 @@
 -- Joining a list of numbers under a kind.
 use Rattle.std.specs.Prelude.{◌≡◌, ℕ, suc, cond, List, [], ◌∷◌, ◌++◌, Some, None, Ok, Err, Option, Result}
+use Rattle.std.specs.List.{AllByRecursion, fold}
 use Rattle.costs.specs.Meaning.{Meaning, Cost}
 
 -- each number of the list is a cost
 abbrev pub Costs : Meaning → List ℕ → Type 0
-Costs m [] = Unit {0}
-Costs m (x ∷ xs) = Cost m x × Costs m xs
+Costs m xs = AllByRecursion (Cost m) xs
 
 -- the list joined from first to last, onto a
 abbrev pub joined_onto : Meaning → ℕ → List ℕ → ℕ
-joined_onto m a [] = a
-joined_onto m a (x ∷ xs) = joined_onto m (m.join a x) xs
+joined_onto m a xs = fold m.join a xs
 
 -- the list joined from first to last; free for the empty one
 abbrev pub joined : Meaning → List ℕ → ℕ

@@ -1,6 +1,7 @@
 -- The layout of a file: what a file describes, how that is written in bytes, and the limits that it keeps.
 use Rattle.std.specs.Prelude.{◌≡◌, ℕ, zero, suc, ◌+◌, ◌-◌, ◌*◌, ◌/◌, ◌%◌, ◌^◌, ◌<◌, ◌≤◌, true, false, ◌↔◌, List, [], ◌∷◌, ◌++◌, map, length, Some, None, Ok, Option, Result}
-use Rattle.std.specs.List.{flat_map, AllByRecursion}
+use Rattle.std.specs.List.{flat_map, AllByRecursion, fold}
+use Rattle.std.specs.Option.{unwrap_or}
 use Rattle.costs.specs.Meaning.{Meaning, Cost}
 use Rattle.board.specs.Bounds.{most_places, most_rows, most_lines}
 use Rattle.board.specs.declared.row.Row.{Row}
@@ -25,8 +26,7 @@ pub record Description : Type 0 where
 
 -- what a section holds; an absent one nothing
 abbrev pub held_in : {A : Type 0} → Option (List A) → List A
-held_in None = []
-held_in (Some xs) = xs
+held_in o = unwrap_or o []
 
 -- a number, and the width in bits of the field it is put into
 abbrev pub Field : Type 0
@@ -34,8 +34,7 @@ Field = ℕ × ℕ
 
 -- the fields as one number, the first the most significant, with w in front
 abbrev pub word_onto : ℕ → List Field → ℕ
-word_onto w [] = w
-word_onto w (f ∷ fs) = word_onto (w * 2 ^ f.1 + f.0) fs
+word_onto w fs = fold (λ w f. w * 2 ^ f.1 + f.0) w fs
 
 abbrev pub word : List Field → ℕ
 word fs = word_onto 0 fs

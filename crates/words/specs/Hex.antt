@@ -1,7 +1,7 @@
 -- Hexadecimal numbers, by the words of the kit's `hex`: a digit's value (`hex_digit_value`, upper or lower case), the bytes
 -- that digits write, two to a byte (`decode_of`), and the digits that bytes are written as, in lower case (`encode_lower`).
 use Rattle.std.specs.Prelude.{◌≡◌, ℕ, ◌+◌, ◌*◌, ◌/◌, ◌%◌, ◌^◌, ◌<◌, cond, ◌&&◌, List, [], ◌∷◌, length, Some, None, Option, nat_le}
-use Rattle.std.specs.List.{AllByRecursion}
+use Rattle.std.specs.List.{AllByRecursion, fold}
 use Rattle.std.specs.Result.{result_ok}
 use Rattle.hex.specs.Hex.{hex_digit_value, decode_of, encode_lower}
 
@@ -13,8 +13,7 @@ then_digit (Some n) (Some d) = Some (n * 16 + d)
 
 -- digits read after a number
 abbrev pub hex_on : Option ℕ → List ℕ → Option ℕ
-hex_on n [] = n
-hex_on n (b ∷ bs) = hex_on (then_digit n (hex_digit_value b)) bs
+hex_on n bs = fold (λ n b. then_digit n (hex_digit_value b)) n bs
 
 -- the number that one to four digits write
 unfoldable pub hex_number_of : List ℕ → Option ℕ

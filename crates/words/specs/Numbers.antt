@@ -1,6 +1,6 @@
 -- The decimal number that a word writes.
 use Rattle.std.specs.Prelude.{◌≡◌, ℕ, suc, ◌+◌, ◌-◌, ◌*◌, ◌≤◌, Bool, cond, ◌&&◌, List, [], ◌∷◌, length, Some, None, decimal, Option, nat_le, nat_lt, slice_index}
-use Rattle.std.specs.List.{list_all}
+use Rattle.std.specs.List.{list_all, fold}
 
 -- the bytes '0' to '9'
 abbrev pub is_digit : ℕ → Bool
@@ -11,8 +11,7 @@ all_digits bs = list_all is_digit bs
 
 -- digits read after the number n: each makes it ten times as large and adds its own value
 abbrev pub read_on : ℕ → List ℕ → ℕ
-read_on n [] = n
-read_on n (b ∷ bs) = read_on (10 * n + (b - 48)) bs
+read_on n bs = fold (λ n b. 10 * n + (b - 48)) n bs
 
 -- one or more digits, and nothing else, that write a number of at most the limit
 abbrev pub is_number : ℕ → List ℕ → Bool

@@ -1,5 +1,7 @@
 -- The order of candidates is total and transitive, and its test decides it; the same of readings.
-use Rattle.std.proofs.Common.{◌≡◌, ℕ, Bool, true, false, cond, eqb, ltb, ◌⊎◌, List, [], ◌∷◌, sym, refl, ◌∙◌, subst, inl, inr, ⊎_elim, arith}
+use Rattle.std.proofs.Common.{◌≡◌, ℕ, Bool, true, false, cond, eqb, ltb, Less, Equal, Greater, ◌⊎◌, List, [], ◌∷◌, sym, refl, ◌∙◌, subst, inl, inr, ⊎_elim, arith}
+use Rattle.std.specs.Ordering.{is_le, nat_cmp, ordering_then}
+use Rattle.std.specs.Cmp.Lexicographic.{slice_cmp}
 use Rattle.std.proofs.lemmas.Bool.{ltb-true, ltb-false, eqb-true, eqb-false}
 use Rattle.costs.specs.Meaning.{Meaning, Lawful, Cost}
 use Rattle.board.specs.Content.{Content}
@@ -35,11 +37,12 @@ abbrev pub Decided : Bool → Type 0 → Type 0 → Type 0
 Decided b P Q = ((b ≡ true) × P) ⊎ ((b ≡ false) × Q)
 
 pub lex_test : (x y : List ℕ) → Decided (lex? x y) (Lex x y) (Lex y x)
-lex_test [] y = inl (refl, tt)
+lex_test [] [] = inl (refl, tt)
+lex_test [] (b ∷ y) = inl (refl, tt)
 lex_test (a ∷ x) [] = inr (refl, tt)
 lex_test (a ∷ x) (b ∷ y) = first (ltb a b) refl (eqb a b) refl (lex_test x y)
   where
-    first : (s : Bool) → ltb a b ≡ s → (t : Bool) → eqb a b ≡ t → Decided (lex? x y) (Lex x y) (Lex y x) → Decided (cond s true (cond t (lex? x y) false)) (Lex (a ∷ x) (b ∷ y)) (Lex (b ∷ y) (a ∷ x))
+    first : (s : Bool) → ltb a b ≡ s → (t : Bool) → eqb a b ≡ t → Decided (lex? x y) (Lex x y) (Lex y x) → Decided (is_le (ordering_then (cond s Less (cond t Equal Greater)) (slice_cmp nat_cmp x y))) (Lex (a ∷ x) (b ∷ y)) (Lex (b ∷ y) (a ∷ x))
     first true e t f d = inl (refl, inl (ltb-true a b e))
     first false e true f (inl d) = inl (d.0, inr (eqb-true a b f, d.1))
     first false e true f (inr d) = inr (d.0, inr (sym (eqb-true a b f), d.1))
