@@ -1,5 +1,5 @@
 -- The log that an array of entries stands for.
-use Rattle.std.specs.Prelude.{ℕ, zero, suc, ◌+◌, cond, List, [], ◌∷◌, ◌++◌, length, ◌==◌, slice_index_or}
+use Rattle.std.specs.Prelude.{ℕ, zero, suc, cond, List, [], ◌∷◌, ◌++◌, length, ◌==◌, slice_index_or}
 use Rattle.board.specs.declared.moves.Move.{Move}
 use Rattle.board.specs.Moves.{origin}
 use Rattle.board.specs.Settling.{Record, Derivation, start, by_step, by_call, bare}

@@ -1,6 +1,6 @@
 -- The moves of a complete reading, as path packs them and as they are printed.
-use Rattle.std.proofs.Common.{◌≡◌, ℕ, zero, suc, ◌<◌, ◌≤◌, ◌⊎◌, min, leb, List, [], ◌∷◌, ◌++◌, map, length, take, drop, Some, None, Ok, Option, Result, sym, refl, ap, ap₂, ◌∙◌, subst, inl, inr, append-nil, arith}
-use Rattle.std.specs.List.{All, flat_map, slice_get}
+use Rattle.std.proofs.Common.{◌≡◌, ℕ, zero, suc, ◌<◌, ◌≤◌, ◌⊎◌, min, List, [], ◌∷◌, ◌++◌, map, length, take, drop, Some, None, Ok, Option, Result, sym, refl, ap, ap₂, ◌∙◌, subst, inl, inr, append-nil, arith}
+use Rattle.std.specs.List.{All, flat_map}
 use Rattle.std.specs.Option.{option_to_list}
 use Rattle.std.proofs.lemmas.Option.{slice_get_within, none-some, same_Some}
 use Rattle.std.proofs.Math.Seq.{take-append_seam}
@@ -14,10 +14,10 @@ use Rattle.board.specs.declared.moves.Move.{Move}
 use Rattle.board.specs.declared.moves.Effect.{Effect}
 use Rattle.board.specs.Content.{Content, Sound}
 use Rattle.board.specs.Moves.{Place, IsMove, Untimed, Timed}
-use Rattle.board.specs.Packing.{packed, unpacked, SmallLine, Small, PackingIsExact}
+use Rattle.board.specs.Packing.{packed, SmallLine, Small, PackingIsExact}
 use Rattle.board.specs.Paths.{Path, stop, go}
-use Rattle.board.specs.Settling.{Record, RecordedReading, HasNoReading}
-use Rattle.board.specs.Computing.{settled_log, ReadingFound, recorded_reading}
+use Rattle.board.specs.Settling.{RecordedReading}
+use Rattle.board.specs.Computing.{settled_log, recorded_reading}
 use Rattle.board.specs.Promises.{HoldsOfEveryContent, RecordedIsCheapest, Computed, NoneBelow}
 use Rattle.board.specs.Questions.{cost_told, cost_answer}
 use Rattle.board.specs.Meanings.{Written}

@@ -1,5 +1,5 @@
 use Rattle.report.proofs.Showing.{prints_reading}
-use Rattle.board.specs.Content.{Content, Sound}
+use Rattle.board.specs.Content.{Sound}
 use Rattle.std.proofs.Common.{subst}
 use Rattle.report.proofs.files.under.Goals as goal
 

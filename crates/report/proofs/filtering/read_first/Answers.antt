@@ -1,4 +1,4 @@
-use Rattle.std.proofs.Common.{ℕ, List, ◌++◌, take, Option, IfSome, ◌≡◌, subst}
+use Rattle.std.proofs.Common.{ℕ, List, ◌++◌, take, IfSome, ◌≡◌, subst}
 use Rattle.std.specs.Option.{option_map}
 use Rattle.report.proofs.Streams.{first_read}
 use Rattle.report.proofs.filtering.read_first.Goals as goal
