@@ -24,7 +24,7 @@ pub mod Faults
 pub mod Arrivals
 -- The check: by `AcceptsReadings` of Accepted and `RefusesFaults` of Faults.
 pub mod Checks
--- The settled log and the recorded reading: as `Settled` and `RecordedReading` of Settling say, by `Computed` of Promises.
+-- The settled log and the recorded reading: as `SettledLog` and `RecordedReading` of Settling say, by `Computed` of Promises.
 pub mod Computing
 -- What between, cost and path answer: by `BetweenMeans`, `CostMeans` and `PathMeans` of Meanings.
 pub mod Questions

@@ -85,9 +85,9 @@ MovesComputed = (m : Meaning) (c : Content) (v : Move) (p : Place) (h : Arrival)
 pub record Computed (m : Meaning) (c : Content) : Type 0 where
   -- `settled_log` is settled
   pub settled : SettledLog m c (settled_log m c)
-  -- the recorded reading of a settled log is what `found` finds
+  -- the recorded reading of a settled log is what `recorded_reading` finds
   pub some : (log : List Record) → SettledLog m c log → (k : ℕ) (vs : List Move) → RecordedReading m c log k vs ↔ ((i : ℕ) × (recorded_reading m c log ≡ Some (record { row = i; cost = k; moves = vs })))
-  -- there is none exactly if `found` finds none
+  -- there is none exactly if `recorded_reading` finds none
   pub none : (log : List Record) → SettledLog m c log → HasNoReading m c log ↔ (recorded_reading m c log ≡ None)
 
 -- Of every sound content the above holds.
