@@ -16,8 +16,8 @@ opened l p = moves_at l p.front ++ (bare p.row ∷ [])
 abbrev pub remaining : Log → Cursor → List Move
 remaining l c = flat_map (opened l) c.stack.items ++ moves_at l c.at
 
--- The entry being read, and the front of each pending call, has at least as many entries of the log after it as there
--- are calls around it: so there are always fewer pending calls than entries.
+-- The record being read, and the front of each pending call, has at least as many records of the log after it as there
+-- are calls around it: so there are always fewer pending calls than records.
 pub record Walks (l : Log) (c : Cursor) : Type 0 where
   pub room : c.at + length c.stack.items < l.count
   pub fronts : (j : ℕ) (p : Pending) → slice_get c.stack.items j ≡ Some p → p.front + j < l.count

@@ -40,4 +40,4 @@ pub mod Winning
 pub mod Logs
 pub mod Spelled
 pub mod Cursors
-pub mod Entries
+pub mod ByNumber

@@ -1,22 +1,22 @@
--- The log: its entries, its index and its lengths, and what a round makes of it.
+-- The log: its records, its index and its lengths, and what a round makes of it.
 use Rattle.std.specs.Prelude.{◌≡◌, ℕ, suc, ◌+◌, ◌<◌, ◌≤◌, min, List, [], ◌∷◌, length, replicate, Some, None, Option, slice_index, slice_index_or, slice_set, ◌*◌}
 use Rattle.std.proofs.Props.{props}
-use Rattle.board.specs.declared.log.Source.{Source}
-use Rattle.board.specs.declared.log.Source.TheVariants.{Start, Step, Call}
+use Rattle.board.specs.declared.log.Derivation.{Derivation as LogDerivation}
+use Rattle.board.specs.declared.log.Derivation.TheVariants.{Start, Step, Call}
 use Rattle.costs.specs.Meaning.{Meaning, Cost}
 use Rattle.board.specs.Settling.{Round, Rounds, Record}
 use Rattle.board.specs.Content.{Content, Sound}
 use Rattle.board.specs.Moves.{On, Place, place_number}
-use Rattle.board.specs.declared.log.Entry.{Entry}
+use Rattle.board.specs.declared.log.Record.{Record as LogRecord}
 use Rattle.board.specs.declared.log.Log.{Log}
 use Rattle.board.specs.Logged.{blank, records, logged, record_of}
 
--- the entry number i
-abbrev pub numbered : Log → ℕ → Entry
-numbered l i = slice_index_or l.entries i blank
+-- the record number i, as the array holds it
+abbrev pub numbered : Log → ℕ → LogRecord
+numbered l i = slice_index_or l.records i blank
 
--- what a source refers to stands among the first n
-abbrev pub Refers : ℕ → Source → Type 0
+-- what a derivation refers to stands among the first n
+abbrev pub Refers : ℕ → LogDerivation → Type 0
 Refers n Start = Unit {0}
 Refers n (Step i v) = i < n
 Refers n (Call i j o w t) = (i < n) × (j < n)
@@ -25,13 +25,13 @@ Refers n (Call i j o w t) = (i < n) × (j < n)
 abbrev pub pair_of : Content → Place → Place → ℕ
 pair_of c s q = place_number c s * 64 + place_number c q
 
--- the record of entry i
-abbrev pub record_at : List Entry → ℕ → Record
+-- the record that number i of an array stands for
+abbrev pub record_at : List LogRecord → ℕ → Record
 record_at rs i = record_of (logged rs i) (slice_index_or rs i blank)
 
--- the record of entry i
+-- and of a log
 abbrev pub nth_record : Log → ℕ → Record
-nth_record l i = record_at l.entries i
+nth_record l i = record_at l.records i
 
 -- how many pairs have a number
 abbrev pub filled : List (Option ℕ) → ℕ
@@ -39,22 +39,22 @@ filled [] = 0
 filled (None ∷ xs) = filled xs
 filled (Some i ∷ xs) = suc (filled xs)
 
--- the entry is between places of the board, at a cost of the kind
-pub record Kept (m : Meaning) (c : Content) (r : Entry) : Type 0 where
+-- the record is between places of the board, at a cost of the kind
+pub record Kept (m : Meaning) (c : Content) (r : LogRecord) : Type 0 where
   pub price : Cost m r.cost
   pub from_on : On c r.from
   pub to_on : On c r.to
 
--- Each entry refers to earlier ones, and its length is that of its moves, 65,536 where they are more.
+-- Each record refers to earlier ones, and its length is that of its moves, 65,536 where they are more.
 pub record Spells (l : Log) : Type 0 where
   pub room : l.count ≤ 4096
-  pub earlier : (i : ℕ) → i < l.count → Refers i (numbered l i).source
+  pub earlier : (i : ℕ) → i < l.count → Refers i (numbered l i).derivation
   pub lengths_are : (i : ℕ) → i < l.count → slice_index l.lengths i ≡ min (length (nth_record l i).moves) 65536
 
--- Each entry is between places of the board at a cost of the kind, the index finds it and nothing else, and it spells out
+-- Each record is between places of the board at a cost of the kind, the index finds it and nothing else, and it spells out
 -- its moves.
 pub record Book (m : Meaning) (c : Content) (l : Log) : Type 0 where
-  pub long : length l.entries ≡ 4096
+  pub long : length l.records ≡ 4096
   pub index_long : length l.index ≡ 4096
   pub kept : (i : ℕ) → i < l.count → Kept m c (numbered l i)
   pub found : (i : ℕ) → i < l.count → slice_index_or l.index (pair_of c (numbered l i).from (numbered l i).to) None ≡ Some i
@@ -63,13 +63,13 @@ pub record Book (m : Meaning) (c : Content) (l : Log) : Type 0 where
   pub lengths_long : length l.lengths ≡ 4096
   pub spells : Spells l
 
--- there is one proof at most that a source refers to earlier entries
-pub Refers-prop : (n : ℕ) (s : Source) → IsProp (Refers n s)
+-- there is one proof at most that a derivation refers to earlier records
+pub Refers-prop : (n : ℕ) (s : LogDerivation) → IsProp (Refers n s)
 Refers-prop n Start = hlevel
 Refers-prop n (Step i v) = hlevel props
 Refers-prop n (Call i j o w t) = hlevel props
 
--- and one at most that the entries of a log spell out their moves, and of a book
+-- and one at most that the records of a log spell out their moves, and of a book
 pub Spells-prop : (l : Log) → IsProp (Spells l)
 Spells-prop l = hlevel (props, Refers-prop)
 
@@ -82,12 +82,12 @@ pub record Ready (m : Meaning) (c : Content) (l : Log) : Type 0 where
   pub book : Book m c l
 
 -- the log with r settled, at the pair p
-abbrev pub pushed : Log → ℕ → Entry → ℕ → Log
-pushed l p r n = record { entries = slice_set l.entries l.count r; count = l.count + 1; index = slice_set l.index p (Some l.count); lengths = slice_set l.lengths l.count n }
+abbrev pub pushed : Log → ℕ → LogRecord → ℕ → Log
+pushed l p r n = record { records = slice_set l.records l.count r; count = l.count + 1; index = slice_set l.index p (Some l.count); lengths = slice_set l.lengths l.count n }
 
 -- nothing settled
 abbrev pub empty : Log
-empty = record { entries = replicate 4096 blank; count = 0; index = replicate 4096 None; lengths = replicate 4096 0 }
+empty = record { records = replicate 4096 blank; count = 0; index = replicate 4096 None; lengths = replicate 4096 0 }
 
 -- a log that some number of rounds reach
 abbrev pub Reached : Meaning → Content → List Record → Type 0

@@ -6,7 +6,7 @@ use Rattle.board.specs.declared.row.Row.{Row}
 use Rattle.board.specs.declared.row.Line.{Line}
 use Rattle.board.specs.declared.moves.Move.{Move}
 use Rattle.board.specs.declared.moves.Effect.TheVariants.{Quiet, Opens, Closes}
-use Rattle.board.specs.declared.log.Entry.{Entry}
+use Rattle.board.specs.declared.log.Record.{Record as LogRecord}
 use Rattle.board.specs.declared.log.Log.{Log}
 use Rattle.board.specs.declared.settling.Minima.{Minima}
 use Rattle.board.specs.declared.settling.Waiting.{Waiting}
@@ -24,9 +24,9 @@ abbrev pub OpensWay : Meaning → Content → ℕ → Place → Option Way → T
 OpensWay m c o p None = (q : Place) (k n : ℕ) → Transition m c (bare o) p q k (Opens n) → ⊥
 OpensWay m c o p (Some w) = Transition m c (bare o) p w.to w.cost (Opens w.bracket)
 
--- The open row o, the entry b and the close row w of the same bracket: p is the number of the place where the open row
+-- The open row o, the record b and the close row w of the same bracket: p is the number of the place where the open row
 -- starts and of that to which the close row leads, and k is what the three cost.
-pub record BracketedBy (m : Meaning) (c : Content) (b : Entry) (o w p k : ℕ) : Type 0 where
+pub record BracketedBy (m : Meaning) (c : Content) (b : LogRecord) (o w p k : ℕ) : Type 0 where
   pub place : Place
   pub exit : Place
   pub bracket : ℕ
@@ -37,7 +37,7 @@ pub record BracketedBy (m : Meaning) (c : Content) (b : Entry) (o w p k : ℕ) :
   pub at : p ≡ pair_of c place exit
   pub cost_is : k ≡ m.join price (m.join b.cost last)
 
--- any entry between an open and a close row
+-- any record between an open and a close row
 abbrev pub Bracketed : Meaning → Content → Log → Costing
 Bracketed m c l p k = (j : ℕ) × (j < l.count) × (o : ℕ) × (w : ℕ) × BracketedBy m c (numbered l j) o w p k
 
@@ -70,7 +70,7 @@ PlainlyAt m c row r t = PlainlyFrom m c (bare row) (r.from, t)
 abbrev pub PlainlyAlong : Meaning → Content → ℕ → Row → ℕ → Costing
 PlainlyAlong m c row r j p k = (w : Line) × (slice_get c.lines j ≡ Some w) × PlainlyFrom m c (record { row = row; line = Some j }) (r.from, w.from) p k
 
--- a link: what a record can go on by, a move without brackets or an entry between brackets
+-- a link: what a record can go on by, a move without brackets or a record between brackets
 abbrev pub Link : Meaning → Content → Log → Costing
 Link m c l p k = PlainLink m c p k ⊎ Bracketed m c l p k
 
@@ -81,15 +81,15 @@ pub record CandidateAt (m : Meaning) (c : Content) (l : Log) (p k : ℕ) : Type 
   pub at : p ≡ pair_of c it.from it.to
   pub cost_is : k ≡ it.cost
 
--- the entry a and then the link of the list to the place numbered q
-abbrev pub FollowedBy : Meaning → Content → List ℕ → Entry → ℕ → Costing
+-- the record a and then the link of the list to the place numbered q
+abbrev pub FollowedBy : Meaning → Content → List ℕ → LogRecord → ℕ → Costing
 FollowedBy m c links a q p k = (p ≡ place_number c a.from * 64 + q) × (k ≡ m.join a.cost (slice_index links (place_number c a.to * 64 + q)))
 
--- the entry a and then a link of the list
-abbrev pub Followed : Meaning → Content → List ℕ → Entry → Costing
+-- the record a and then a link of the list
+abbrev pub Followed : Meaning → Content → List ℕ → LogRecord → Costing
 Followed m c links a = Among (FollowedBy m c links a) 64
 
--- The entry that goes from the place numbered s to that numbered r, if the log has it, and then a link at this cost to the
+-- The record that goes from the place numbered s to that numbered r, if the log has it, and then a link at this cost to the
 -- place numbered q.
 pub record FollowedFrom (m : Meaning) (l : Log) (r q cost s p k : ℕ) : Type 0 where
   pub front : ℕ
@@ -118,23 +118,23 @@ pub record WaitingHeld (m : Meaning) (c : Content) (l : Log) (w : Waiting) : Typ
   pub attained : Attained m (CandidateAt m c l) w.costs
   pub least : PlacesLeast m l w
 
--- Links and candidates belong together: no entry with a link behind it is cheaper than what waits.
+-- Links and candidates belong together: no record with a link behind it is cheaper than what waits.
 pub record Linked (m : Meaning) (c : Content) (l : Log) (links : List ℕ) (waiting : Waiting) : Type 0 where
   pub held_links : LinksHeld m c l links
   pub held_waiting : WaitingHeld m c l waiting
   pub followed : (i : ℕ) → i < l.count → Bounds m (Followed m c links (numbered l i)) waiting.costs
 
--- the open row o, the entry and the close row w, both rows marked
-pub record BracketedIf (m : Meaning) (c : Content) (leads : List Bool) (b : Entry) (o w p k : ℕ) : Type 0 where
+-- the open row o, the record and the close row w, both rows marked
+pub record BracketedIf (m : Meaning) (c : Content) (leads : List Bool) (b : LogRecord) (o w p k : ℕ) : Type 0 where
   pub opener : slice_index_or leads o false ≡ true
   pub closer : slice_index_or leads w false ≡ true
   pub by : BracketedBy m c b o w p k
 
 -- the same with any marked close row, and with any two marked rows
-abbrev pub BracketedOn : Meaning → Content → List Bool → Entry → ℕ → Costing
+abbrev pub BracketedOn : Meaning → Content → List Bool → LogRecord → ℕ → Costing
 BracketedOn m c leads b o p k = (w : ℕ) × BracketedIf m c leads b o w p k
 
-abbrev pub BracketedIn : Meaning → Content → List Bool → Entry → Costing
+abbrev pub BracketedIn : Meaning → Content → List Bool → LogRecord → Costing
 BracketedIn m c leads b p k = (o : ℕ) × BracketedOn m c leads b o p k
 
 -- whether two rows are of one kind, lead from and to the same modes, and have the same label
@@ -159,7 +159,7 @@ LedAt m c leads row = (r : Row) → slice_get c.rows row ≡ Some r → (lead : 
 abbrev pub Led : Meaning → Content → List Bool → Type 0
 Led m c leads = (row : ℕ) → LedAt m c leads row
 
--- What holds after each entry, of the log and the least costs: links are the least there are, candidates belong to them, and
+-- What holds after each record, of the log and the least costs: links are the least there are, candidates belong to them, and
 -- each row has a marked row that stands for it.
 pub record State (m : Meaning) (c : Content) (l : Log) (s : Minima) : Type 0 where
   pub ready : Ready m c l

@@ -8,9 +8,9 @@ use Rattle.board.specs.declared.row.Line.{Line}
 use Rattle.board.specs.declared.row.RowKind.{RowKind}
 use Rattle.board.specs.declared.row.RowKind.TheVariants.{Plain, Open, Close, End}
 use Rattle.board.specs.declared.moves.Move.{Move}
-use Rattle.board.specs.declared.log.Entry.{Entry}
+use Rattle.board.specs.declared.log.Record.{Record as LogRecord}
 use Rattle.board.specs.declared.log.Log.{Log}
-use Rattle.board.specs.declared.log.Source.{Source}
+use Rattle.board.specs.declared.log.Derivation.{Derivation as LogDerivation}
 use Rattle.board.specs.declared.settling.Known.{Known}
 use Rattle.board.specs.declared.settling.Goal.{Goal}
 use Rattle.board.specs.Content.{Content}
@@ -55,24 +55,24 @@ pub record Makes (m : Meaning) (c : Content) (l : Log) (g : Goal) (y : Record) :
   pub ends : y.to ≡ g.to
   pub costs : y.cost ≡ g.cost
 
--- the entry for the goal by this source
-abbrev pub made : Goal → Source → Entry
-made g s = record { from = g.from; to = g.to; cost = g.cost; source = s }
+-- the record for the goal by this derivation
+abbrev pub made : Goal → LogDerivation → LogRecord
+made g s = record { from = g.from; to = g.to; cost = g.cost; derivation = s }
 
--- The source makes the goal and is one of Q, and goes before every other of Q that makes it.
-pub record Wins (m : Meaning) (c : Content) (l : Log) (g : Goal) (Q : Derivation → Type 0) (s : Source) : Type 0 where
+-- The derivation makes the goal and is one of Q, and goes before every other of Q that makes it.
+pub record Wins (m : Meaning) (c : Content) (l : Log) (g : Goal) (Q : Derivation → Type 0) (s : LogDerivation) : Type 0 where
   pub refers : Refers l.count s
   pub makes : Makes m c l g (record_of (records l) (made g s))
   pub one : Q (derivation_of s)
   pub first : (y : Record) → Makes m c l g y → Q y.derivation → Lex (derivation_key (derivation_of s)) (derivation_key y.derivation)
 
 -- the winner of Q, or none where no candidate of Q makes the goal
-abbrev pub Finds : Meaning → Content → Log → Goal → (Derivation → Type 0) → Option Source → Type 0
+abbrev pub Finds : Meaning → Content → Log → Goal → (Derivation → Type 0) → Option LogDerivation → Type 0
 Finds m c l g Q None = (y : Record) → Makes m c l g y → Q y.derivation → ⊥
 Finds m c l g Q (Some s) = Wins m c l g Q s
 
 -- the same, on what is known
-abbrev pub FindsOf : {K : Type 0} {k : Ghosts K} → Meaning → Known K k → Goal → (Derivation → Type 0) → Option Source → Type 0
+abbrev pub FindsOf : {K : Type 0} {k : Ghosts K} → Meaning → Known K k → Goal → (Derivation → Type 0) → Option LogDerivation → Type 0
 FindsOf m a g Q s = Finds m (held a.tables.now) a.log.now g Q s
 
 -- any derivation
@@ -118,7 +118,7 @@ pub record Gathered (P : ℕ → Type 0) (n : ℕ) (xs : List ℕ) : Type 0 wher
 abbrev pub LineTo : Content → ℕ → ℕ → Type 0
 LineTo c t j = (w : Line) × (slice_get c.lines j ≡ Some w) × (w.to ≡ t)
 
--- An entry from where the goal starts to the place numbered r, and a link from there to where it ends, cost no more than it.
+-- A record from where the goal starts to the place numbered r, and a link from there to where it ends, cost no more than it.
 pub record TightAt (m : Meaning) (c : Content) (l : Log) (g : Goal) (r : ℕ) : Type 0 where
   pub front : ℕ
   pub front_in : front < l.count

@@ -4,7 +4,7 @@
 // its second.
 pub(crate) const PLACES: usize = 64;
 
-// Pairs of places, so entries of a log, and calls that one entry stands inside, at most.
+// Pairs of places, so records of a log, and calls that one record stands inside, at most.
 pub(crate) const PAIRS: usize = PLACES * PLACES;
 
 // Rows at most.

@@ -1,11 +1,11 @@
-// A cursor on the moves of an entry, from the last back to the first.
+// A cursor on the moves of a record, from the last back to the first.
 ghost use Rattle.std.specs.Prelude.{◌≡◌, ◌<◌, [], ◌∷◌, ◌++◌, length};
 ghost use Rattle.board.specs.Logs.{Spells};
 ghost use Rattle.board.specs.Spelled.{moves_at};
 ghost use Rattle.board.specs.Cursors.{Walks, remaining};
 
 use crate::bounds::PAIRS;
-use crate::log::{Log, Source};
+use crate::log::{Derivation, Log};
 use crate::moves::Move;
 use arrayvec::ArrayVec;
 
@@ -16,7 +16,7 @@ pub(crate) struct Pending {
     pub row: u8,
 }
 
-// The entry being read, and the calls that it stands inside, the innermost last.
+// The record being read, and the calls that it stands inside, the innermost last.
 #[derive(Drop)]
 pub(crate) struct Cursor {
     at: usize,
@@ -24,7 +24,7 @@ pub(crate) struct Cursor {
 }
 
 impl Cursor {
-    // Past the last move of the entry i.
+    // Past the last move of the record i.
     pub(crate) fn past(i: usize) -> Cursor
         ensures walks { (l : Log) → i < l.count → Walks l result }
         ensures all { (l : Log) → remaining l result ≡ moves_at l i }
@@ -43,9 +43,9 @@ impl Cursor {
         ensures walks { Walks log.now self.new }
         ensures last { remaining log.now self.old ≡ remaining log.now self.new ++ (result ∷ []) }
     {
-        let entry = log.entries[self.at];
-        match entry.source {
-            Source::Start => {
+        let at = log.records[self.at];
+        match at.derivation {
+            Derivation::Start => {
                 let Some(pending) = self.stack.pop() else {
                     unreachable!()
                 };
@@ -55,11 +55,11 @@ impl Cursor {
                     line: None,
                 }
             }
-            Source::Step(front, by) => {
+            Derivation::Step(front, by) => {
                 self.at = front as usize;
                 by
             }
-            Source::Call(front, inside, open, close, _) => {
+            Derivation::Call(front, inside, open, close, _) => {
                 self.stack.push(Pending { front, row: open });
                 self.at = inside as usize;
                 Move {

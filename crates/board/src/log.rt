@@ -1,4 +1,4 @@
-// The log of settling: an entry for each settled pair of places, in the order of settling.
+// The log of settling: the records of the settled pairs of places, in the order of settling.
 ghost use Rattle.std.specs.Prelude.{◌≡◌, ◌<◌, min, length, None as ANone, slice_index_or};
 ghost use Rattle.board.specs.Logs.{Spells, pushed, empty, Refers};
 ghost use Rattle.board.specs.Logged.{spelled, records};
@@ -6,43 +6,43 @@ ghost use Rattle.board.specs.Logged.{spelled, records};
 use crate::bounds::{MANY_MOVES, PAIRS};
 use crate::moves::{Move, Place};
 
-// How an entry came about: from nothing, by one step more, or by one call more. `front` and `inside` are the numbers
-// of earlier entries (there is no heap to hold these entries themselves).
+// How a record came about: from nothing, by one step more, or by one call more. `front` and `inside` are the numbers
+// of earlier records (there is no heap to hold these records themselves).
 #[derive(Clone, Copy)]
-pub(crate) enum Source {
+pub(crate) enum Derivation {
     Start,
     Step(u16, Move),
     // front, inside, open row, close row, moment of opening
     Call(u16, u16, u8, u8, u8),
 }
 
-// The entry of a pair of places: its cost, and how it came about.
+// The record of a pair of places: its cost, and how it came about. (Its moves are spelled out when they are asked for.)
 #[derive(Clone, Copy)]
-pub(crate) struct Entry {
+pub(crate) struct Record {
     pub from: Place,
     pub to: Place,
     pub cost: u32,
-    pub source: Source,
+    pub derivation: Derivation,
 }
 
-// The entries in the order of settling, where each pair's stands (pair number: first place times 64 plus second), and
-// how many moves each spells out, 65,536 where they are more. (A plain array and its count: entries are read by their
+// The records in the order of settling, where each pair's stands (pair number: first place times 64 plus second), and
+// how many moves each spells out, 65,536 where they are more. (A plain array and its count: records are read by their
 // numbers at every step, and through a list's slice each of these looks would need a fact of its own. The lengths stand
-// beside them: an entry is made before it is measured, and measured only when it is settled; in one array, each look at an entry
+// beside them: a record is made before it is measured, and measured only when it is settled; in one array, each look at a record
 // would take a pair apart.)
 #[derive(Drop)]
 pub(crate) struct Log {
-    pub entries: [Entry; PAIRS],
+    pub records: [Record; PAIRS],
     pub count: usize,
     pub index: [Option<u16>; PAIRS],
     pub lengths: [u32; PAIRS],
 }
 
-const BLANK: Entry = Entry {
+const BLANK: Record = Record {
     from: (0, 0),
     to: (0, 0),
     cost: 0,
-    source: Source::Start,
+    derivation: Derivation::Start,
 };
 
 impl Log {
@@ -51,14 +51,14 @@ impl Log {
         ensures { result ≡ empty }
     {
         Log {
-            entries: [BLANK; PAIRS],
+            records: [BLANK; PAIRS],
             count: 0,
             index: [None; PAIRS],
             lengths: [0; PAIRS],
         }
     }
 
-    // The number of the entry of a pair, if it is settled.
+    // The number of the record of a pair, if it is settled.
     pub(crate) fn at(&self, pair: usize) -> Option<usize>
         requires { pair < PAIRS }
         ensures { result ≡ slice_index_or self.now.index pair ANone }
@@ -66,29 +66,29 @@ impl Log {
         self.index[pair].map(usize::from)
     }
 
-    // Settles a pair by an entry that spells out so many moves.
-    pub(crate) fn push(&mut self, pair: usize, entry: Entry, moves: u32)
+    // Settles a pair by a record that spells out so many moves.
+    pub(crate) fn push(&mut self, pair: usize, r: Record, moves: u32)
         requires pair { pair < PAIRS }
         requires room { self.old.count < PAIRS }
-        ensures { self.new ≡ pushed self.old pair entry moves }
+        ensures { self.new ≡ pushed self.old pair r moves }
     {
         let k = self.count;
-        self.entries[k] = entry;
+        self.records[k] = r;
         self.index[pair] = Some(k as u16);
         self.lengths[k] = moves;
         self.count = k + 1;
     }
 
-    // How many moves a source spells out, 65,536 where they are more.
-    pub(crate) fn length_of(&self, source: Source) -> u32
-        requires refers { Refers self.now.count source }
+    // How many moves a derivation spells out, 65,536 where they are more.
+    pub(crate) fn length_of(&self, derivation: Derivation) -> u32
+        requires refers { Refers self.now.count derivation }
         requires spells { Spells self.now }
-        ensures { result ≡ min (length (spelled (records self.now) source)) MANY_MOVES }
+        ensures { result ≡ min (length (spelled (records self.now) derivation)) MANY_MOVES }
     {
-        match source {
-            Source::Start => 0,
-            Source::Step(front, _) => (self.lengths[front as usize] + 1).min(MANY_MOVES),
-            Source::Call(front, inside, _, _, _) => (self.lengths[front as usize]
+        match derivation {
+            Derivation::Start => 0,
+            Derivation::Step(front, _) => (self.lengths[front as usize] + 1).min(MANY_MOVES),
+            Derivation::Call(front, inside, _, _, _) => (self.lengths[front as usize]
                 + self.lengths[inside as usize]
                 + 2).min(MANY_MOVES),
         }

@@ -4,11 +4,11 @@ ghost use Rattle.board.specs.Computing.{better_by};
 
 use costs::Kind;
 
-// A reading by its end row, the number of the entry before it, and its joined cost.
+// A reading by its end row, the number of the record before it, and its joined cost.
 #[derive(Clone, Copy)]
 pub(crate) struct Reading {
     pub row: u8,
-    pub entry: usize,
+    pub before: usize,
     pub cost: u32,
 }
 

@@ -3,7 +3,7 @@ ghost use Rattle.board.specs.Held.{held};
 ghost use Rattle.board.specs.Logs.{Book, Book-prop};
 
 use crate::bounds::{PAIRS, PLACES, ROWS};
-use crate::log::{Entry, Log};
+use crate::log::{Log, Record};
 use crate::moves::Place;
 use crate::tables::Tables;
 use costs::Kind;
@@ -31,8 +31,8 @@ pub(crate) struct Waiting {
 
 // The least costs beside the log; the worst stands where there is none. Places and pairs go by their numbers.
 //
-// `links`, by two places: the cheapest move without brackets, or entry between an open and a close move of one bracket.
-// `waiting`, by two places: the cheapest candidate for the pair, an entry and then a link; and by first place the cheapest of
+// `links`, by two places: the cheapest move without brackets, or record between an open and a close move of one bracket.
+// `waiting`, by two places: the cheapest candidate for the pair, a record and then a link; and by first place the cheapest of
 // those whose pair is not settled.
 // `leads`, by row: whether it is the one to look at for costs among the rows of its sort, the cheapest, or the last of these.
 #[derive(Drop)]
@@ -51,7 +51,7 @@ pub(crate) struct Settling {
     minima: Minima,
 }
 
-// The tables and the log so far. (The least costs are lent apart from them, as they alone change. That an entry is within
+// The tables and the log so far. (The least costs are lent apart from them, as they alone change. That a record is within
 // the log stays a clause of what uses it, since a number is within one log only.)
 #[derive(Drop)]
 pub(crate) struct Known<'l, K: Kind> {

@@ -1,4 +1,4 @@
-// Spelling out the moves of an entry.
+// Spelling out the moves of a record.
 ghost use Rattle.std.specs.Prelude.{◌≡◌, ℕ, ◌<◌, ◌≤◌, ◌++◌, map, length, drop};
 ghost use Rattle.board.specs.Packing.{packed, Small};
 ghost use Rattle.board.specs.Logs.{Spells};
@@ -8,7 +8,7 @@ use crate::bounds::MANY_MOVES;
 use crate::cursor::Cursor;
 use crate::log::Log;
 
-// Writes the packed moves of the entry i, in order, from the last back to the first. (By an index: what a loop over
+// Writes the packed moves of the record i, in order, from the last back to the first. (By an index: what a loop over
 // `iter_mut().rev()` wrote is not known after it.)
 pub(crate) fn write_moves(log: &Log, i: usize, out: &mut [u16]) -> usize
     requires spells { Spells log.now }

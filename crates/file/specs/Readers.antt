@@ -49,14 +49,14 @@ found_next (Ok None) = Ok None
 found_next (Ok (Some s)) = Ok (Some (found_section s))
 found_next (Err e) = Err e
 
--- How far a file is read: what is left of it, and what the reader awaits there. (No reading of a table.)
-pub record Reading : Type 0 where
+-- How far a file is read: what is left of it, and what the reader awaits there.
+pub record ReadSoFar : Type 0 where
   pub left : Piece
   pub stage : Stage
 
 -- how far a reader has come
-abbrev pub reading : Reader → Reading
-reading r = record { left = unread r.left; stage = r.stage }
+abbrev pub read_so_far : Reader → ReadSoFar
+read_so_far r = record { left = unread r.left; stage = r.stage }
 
 -- Each stage takes its own section or a later one; at the end none may come.
 abbrev pub may_come : Stage → ℕ → Bool
@@ -78,23 +78,23 @@ abbrev pub stage_after : Stage → ℕ → Stage
 stage_after s code = cond (may_come s code) (following code) s
 
 -- the head that comes next is of a section that may come
-abbrev pub in_order : Reading → Bool
+abbrev pub in_order : ReadSoFar → Bool
 in_order r = may_come r.stage (head_code r.left.bytes)
 
 -- the section whose head comes next, or why it is refused
-abbrev pub section_answer : Reading → Result Found FileRefusal
+abbrev pub section_answer : ReadSoFar → Result Found FileRefusal
 section_answer r =
     cond (nat_lt (length r.left.bytes) 2) (Err CutShort) (cond (in_order r) (Ok (next_section r.left)) (Err WrongSection))
 
 -- the next section, none at the file's end, or why it is refused
-abbrev pub next_answer : Reading → Result (Option Found) LoadFault
+abbrev pub next_answer : ReadSoFar → Result (Option Found) LoadFault
 next_answer r =
     cond (length r.left.bytes == 0) (Ok None)
     (cond (nat_lt (length r.left.bytes) 2) (Err (fault_at CutShort r.left.place))
     (cond (in_order r) (Ok (Some (next_section r.left))) (Err (fault_at WrongSection r.left.place))))
 
 -- how far the file is read then; where no section is answered, as far as before
-abbrev pub next_after : Reading → Reading
+abbrev pub next_after : ReadSoFar → ReadSoFar
 next_after r =
     cond (nat_lt (length r.left.bytes) 2) r
     (cond (in_order r) (record { left = past r.left; stage = following (head_code r.left.bytes) }) r)

@@ -1,7 +1,7 @@
 // A board that is being filled from a file.
 ghost use Rattle.std.specs.Prelude.{◌≡◌, ◌+◌, drop, OnOk};
 ghost use Rattle.board.specs.Held.{draft_content};
-ghost use Rattle.file.specs.Readers.{section_of, found_section, reading};
+ghost use Rattle.file.specs.Readers.{section_of, found_section, read_so_far};
 ghost use Rattle.file.specs.declared.section.SectionKind.TheVariants.{Note};
 ghost use Rattle.file.specs.Records.{record_added, record_next, records};
 ghost use Rattle.file.specs.Fillings.{told, so_far, from_stage};
@@ -9,7 +9,7 @@ ghost use Rattle.file.specs.Load.{section_added, note_taken};
 
 use crate::part::Note;
 use crate::reader::Reader;
-use crate::record::Record;
+use crate::record::SectionRecord;
 use crate::refusal::{FileRefusal, LoadFault};
 use crate::section::Section;
 use crate::unread::Unread;
@@ -28,7 +28,7 @@ pub(crate) struct Filling<'d, 'a, K: Kind> {
 impl<'d, 'a, K: Kind> Filling<'d, 'a, K> {
     // Adds all sections that the reader has left.
     pub fn add_sections(&mut self, mut reader: Reader<'a>) -> Result<(), LoadFault>
-        ensures after { told result (so_far self.new) ≡ from_stage K.meaning self.old.trust reader.entry.stage (reading reader.entry).left (so_far self.old) }
+        ensures after { told result (so_far self.new) ≡ from_stage K.meaning self.old.trust reader.entry.stage (read_so_far reader.entry).left (so_far self.old) }
         ensures same { (self.new.draft.ghost_name ≡ self.old.draft.ghost_name) × (self.new.trust ≡ self.old.trust) }
     {
         while let Some(section) = reader.next()? {
@@ -62,7 +62,7 @@ impl<'d, 'a, K: Kind> Filling<'d, 'a, K> {
     }
 
     // Adds a section's records, one after the other.
-    fn add_records<R: Record>(&mut self, mut part: Unread<'a>, count: u16) -> Result<(), LoadFault>
+    fn add_records<R: SectionRecord>(&mut self, mut part: Unread<'a>, count: u16) -> Result<(), LoadFault>
         ensures after { told result (draft_content self.new.draft.now) ≡ records (record_added R.read_as (R.added K.meaning self.old.trust)) count part.entry.bytes.now part.entry.place (draft_content self.old.draft.now) }
         ensures same { (self.new.draft.ghost_name ≡ self.old.draft.ghost_name) × (self.new.trust ≡ self.old.trust) × (self.new.note ≡ self.old.note) }
     {
@@ -76,7 +76,7 @@ impl<'d, 'a, K: Kind> Filling<'d, 'a, K> {
 
     // Adds the record that comes next, and goes past it: four bytes of fields, which a row and a line divide each in its own
     // way, and four of cost. (So they are read as one word.)
-    fn add_record<R: Record>(&mut self, part: &mut Unread<'a>) -> Result<(), FileRefusal>
+    fn add_record<R: SectionRecord>(&mut self, part: &mut Unread<'a>) -> Result<(), FileRefusal>
         ensures after { told result (draft_content self.new.draft.now) ≡ record_next (record_added R.read_as (R.added K.meaning self.old.trust)) part.old.bytes.now (draft_content self.old.draft.now) }
         ensures rest { OnOk result ((part.new.bytes.now ≡ drop 8 part.old.bytes.now) × (part.new.place ≡ part.old.place + 8)) }
         ensures same { (self.new.draft.ghost_name ≡ self.old.draft.ghost_name) × (self.new.trust ≡ self.old.trust) × (self.new.note ≡ self.old.note) }

@@ -15,7 +15,7 @@ use board::{Draft, Line, Row, RowKind};
 use costs::Kind;
 
 // A record of a section: a row or a line.
-pub(crate) trait Record: Sized {
+pub(crate) trait SectionRecord: Sized {
     // What eight bytes are read as.
     ghost read_as: { ℕ → Result Self FileRefusal };
 
@@ -31,7 +31,7 @@ pub(crate) trait Record: Sized {
         ensures after { told result (draft_content draft.new) ≡ added K.meaning trust (draft_content draft.old) self };
 }
 
-impl Record for Row {
+impl SectionRecord for Row {
     ghost read_as = { row_read };
 
     ghost added = { λ m _ c r. row_added m c r };
@@ -58,7 +58,7 @@ impl Record for Row {
     }
 }
 
-impl Record for Line {
+impl SectionRecord for Line {
     ghost read_as = { line_read };
 
     ghost added = { λ m trust c l. line_added m c (trusted_line m trust l) };

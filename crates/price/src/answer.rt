@@ -29,7 +29,7 @@ pub enum Fault<'a> {
 }
 
 // What a line comes to: a total, nothing where it has no words, or a fault.
-pub type Answer<'a> = Result<Option<Total>, Fault<'a>>;
+pub type LineAnswer<'a> = Result<Option<Total>, Fault<'a>>;
 
 impl fmt::Display for Total {
     ghost output = { λ t. Some (encode (letter_of t.kind) ++ (codes " " ++ decimal t.cost)) };

@@ -5,7 +5,7 @@ ghost use Rattle.costs.specs.Lists.{join_answer};
 ghost use Rattle.costs.specs.Names.{meaning_of};
 ghost use Rattle.price.specs.Lines.{without_return, kind_of, read_costs, FirstUnread, answer_of, words_answer, line_answer, ReadsWritten};
 
-use crate::answer::{Answer, Fault, Total};
+use crate::answer::{Fault, LineAnswer, Total};
 use costs::{KindName, Points, Rank, Severity, join_all};
 use std::alloc::Global;
 use words::{Spacing, number, pieces, word_theorems};
@@ -57,7 +57,7 @@ fn joined(kind: KindName, numbers: &[u32]) -> Result<u32, usize>
 }
 
 // What a line of these words comes to.
-fn words_answer<'a>(heap: Global, words: &[&'a [u8]]) -> Answer<'a>
+fn words_answer<'a>(heap: Global, words: &[&'a [u8]]) -> LineAnswer<'a>
     ensures { IfSome (answer_of result) (λ a. a ≡ words_answer (map (λ x. x.now) words.now)) }
 {
     let Some((letter, costs)) = words.split_first() else {
@@ -71,7 +71,7 @@ fn words_answer<'a>(heap: Global, words: &[&'a [u8]]) -> Answer<'a>
 
 // What the line comes to.
 #[tactic(auto, using(crate::proofs::Written::reads_written))]
-pub fn answer<'a>(heap: Global, line: &'a [u8]) -> Answer<'a>
+pub fn answer<'a>(heap: Global, line: &'a [u8]) -> LineAnswer<'a>
     ensures made { IfSome (answer_of result) (λ a. a ≡ line_answer line.now) }
     ensures reads_written { ReadsWritten }
 {

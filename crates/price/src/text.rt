@@ -3,7 +3,7 @@ ghost use Rattle.std.specs.Prelude.{◌≡◌, ◌++◌, IfOk, OnOk, IsSomeAnd};
 ghost use Rattle.price.specs.Lines.{answer_of};
 ghost use Rattle.price.specs.Report.{word_line, printed, report_of, LineByLine};
 
-use crate::answer::{Answer, Fault};
+use crate::answer::{Fault, LineAnswer};
 use crate::line::answer;
 use std::alloc::{AllocError, Global};
 use words::{Newline, pieces, word_theorems};
@@ -21,7 +21,7 @@ fn push_word_line(out: &mut Vec<u8>, label: &[u8], word: &[u8]) -> Result<(), Al
 
 // Adds what is printed of an answer. A number that is no cost of the kind is refusal 10. (Where memory did not suffice,
 // nothing is printed, and that is the error of the whole.)
-fn push_answer(out: &mut Vec<u8>, answer: Answer<'_>) -> Result<(), AllocError>
+fn push_answer(out: &mut Vec<u8>, answer: LineAnswer<'_>) -> Result<(), AllocError>
     ensures { OnOk result (IsSomeAnd (answer_of answer.entry) (λ a. out.new.items ≡ out.old.items ++ printed a)) }
 {
     match answer {

@@ -25,7 +25,7 @@ use Rattle.script.specs.Forms.{alone_call, kind_call, two_wide, row_limits, row_
 use Rattle.script.specs.Names.{spells, name_of}
 use Rattle.script.specs.Runs.{run_of, run_from, split_run, run_before, runs_of, not_too_long, moves_of, check_call}
 use Rattle.script.specs.Script.{call, skip, call_of, call_parsed, name_parsed, words_parsed, is_comment, line_parsed, script_part_of}
-use Rattle.script.proofs.Plain.{point, reserved, fewer, no_point, is_plain, plain_text, free_digits}
+use Rattle.script.proofs.Unreserved.{point, reserved, fewer, no_point, is_unreserved, unreserved_text, free_digits}
 use Rattle.script.proofs.Arrows.{line_answered}
 
 -- words, and bytes, with no '>'
@@ -203,8 +203,8 @@ named_free text w free rest n m later e = ⊎_elim
     (λ (f : spells text w ≡ false). later (sym (cond-false _ (Some n) rest f) ∙ e))
     (cases_Bool (spells text w))
 
-text_free : (text : List ℕ) → is_plain text ≡ true → Free text
-text_free text plain = fewer reserved point no_point text (plain_text text plain).1
+text_free : (text : List ℕ) → is_unreserved text ≡ true → Free text
+text_free text free = fewer reserved point no_point text (unreserved_text text free).1
 
 name_free : (w : List ℕ) (n : Name) → name_of w ≡ Some n → Free w
 name_free w n e =

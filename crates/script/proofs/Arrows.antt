@@ -6,7 +6,7 @@ use Rattle.words.specs.Splits.{after_mark, longer, split_here, split_of}
 use Rattle.words.specs.Trims.{trimmed_of}
 use Rattle.words.specs.Laws.{WordLaws}
 use Rattle.script.specs.Script.{before_split, words_parsed, line_parsed}
-use Rattle.script.proofs.Plain.{point, star}
+use Rattle.script.proofs.Unreserved.{point, star}
 
 abbrev arrow : List ℕ
 arrow = codes " -> "

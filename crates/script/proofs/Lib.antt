@@ -1,5 +1,5 @@
 pub mod Repeating
-pub mod Plain
+pub mod Unreserved
 pub mod Arrows
 pub mod Writing
 pub mod Printing

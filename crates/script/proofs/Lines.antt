@@ -10,9 +10,9 @@ use Rattle.script.specs.Calls.{Call}
 use Rattle.script.specs.Script.{before_split, script_part_of}
 use Rattle.script.specs.Written.{spaced, name_word, words_after, written, Fits}
 use Rattle.script.specs.Printing.{script_of}
-use Rattle.script.proofs.Plain.{Plain, reserved, fewer, no_spacing, no_newline, one_piece, line_ends}
+use Rattle.script.proofs.Unreserved.{Unreserved, reserved, fewer, no_spacing, no_newline, one_piece, line_ends}
 use Rattle.script.proofs.Arrows.{no_arrow_split}
-use Rattle.script.proofs.Writing.{plain_name, plain_words, written_without, unpointed}
+use Rattle.script.proofs.Writing.{unreserved_name, unreserved_words, written_without, unpointed}
 
 -- separators at neither end are none to take away
 module _ (laws : WordLaws) (sep : ℕ → Bool) where
@@ -33,25 +33,25 @@ module _ (laws : WordLaws) (sep : ℕ → Bool) where
 
 -- lines of calls
 module _ (laws : WordLaws) where
-  -- a line of plain words is not trimmed
-  line_kept : (w : List ℕ) (ws : List (List ℕ)) → Plain w → AllByRecursion Plain ws → trimmed_of spacing (w ++ spaced ws) ≡ w ++ spaced ws
+  -- a line of unreserved words is not trimmed
+  line_kept : (w : List ℕ) (ws : List (List ℕ)) → Unreserved w → AllByRecursion Unreserved ws → trimmed_of spacing (w ++ spaced ws) ≡ w ++ spaced ws
   unfolding trimmed_of
-  line_kept w ws plain plains =
-      let e = line_ends w ws plain plains in
-      ap (without_back spacing) (front_kept laws spacing w (spaced ws) plain.0 (fewer reserved spacing no_spacing w plain.1))
+  line_kept w ws free others =
+      let e = line_ends w ws free others in
+      ap (without_back spacing) (front_kept laws spacing w (spaced ws) free.0 (fewer reserved spacing no_spacing w free.1))
       ∙ ap (without_back spacing) e.is
-      ∙ back_kept laws spacing e.front e.last e.plain.0 (fewer reserved spacing no_spacing e.last e.plain.1)
+      ∙ back_kept laws spacing e.front e.last e.free.0 (fewer reserved spacing no_spacing e.last e.free.1)
       ∙ sym e.is
 
   -- the whole line of a call is the script
   pub whole_line : (c : Call) → Fits c → script_part_of (written c) ≡ written c
   whole_line c fits =
       ap (λ (o : Option (List ℕ × List ℕ)). trimmed_of spacing (before_split (written c) o)) (no_arrow_split (written c) (unpointed laws c fits))
-      ∙ line_kept (name_word c) (words_after c) (plain_name c) (plain_words laws c fits)
+      ∙ line_kept (name_word c) (words_after c) (unreserved_name c) (unreserved_words laws c fits)
 
   -- a script is cut into the lines of its calls
   one_line : (c : Call) → Fits c → pieces_of newline (written c) ≡ written c ∷ []
-  one_line c fits = one_piece laws newline (written c) (let h = (plain_name c).0 in omega (arith, h, length-append (name_word c) (spaced (words_after c)))) (written_without laws newline no_newline refl c fits)
+  one_line c fits = one_piece laws newline (written c) (let h = (unreserved_name c).0 in omega (arith, h, length-append (name_word c) (spaced (words_after c)))) (written_without laws newline no_newline refl c fits)
 
   pub line_first : (c : Call) → Fits c → (rest : List ℕ) → pieces_of newline (written c ++ (codes "\n" ++ rest)) ≡ written c ∷ pieces_of newline rest
   line_first c fits rest = (laws.cuts newline).apart (written c) 10 rest refl ∙ ap (λ ps. ps ++ pieces_of newline rest) (one_line c fits)

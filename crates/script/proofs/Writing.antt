@@ -21,7 +21,7 @@ use Rattle.script.specs.Names.{spells}
 use Rattle.script.specs.Runs.{run_of, run_from, split_run, run_before, runs_of, not_too_long, check_call}
 use Rattle.script.specs.Script.{call, call_parsed, words_parsed}
 use Rattle.script.specs.Written.{file_words, row_numbers, line_numbers, name_word, words_after, written, UpTo, Fits, ReadsWritten}
-use Rattle.script.proofs.Plain.{Plain, is_plain, reserved, point, star, fewer, no_star, plain_decimal, plain_bytes, plain_u16, plain_text, plain_letter, no_point, spaced_pieces, line_without}
+use Rattle.script.proofs.Unreserved.{Unreserved, is_unreserved, reserved, point, star, fewer, no_star, unreserved_decimal, unreserved_bytes, unreserved_u16, unreserved_text, unreserved_letter, no_point, spaced_pieces, line_without}
 use Rattle.script.proofs.Again.{said_again}
 use Rattle.script.proofs.Arrows.{line_alone, line_answered, no_star_split}
 
@@ -36,16 +36,16 @@ module _ (laws : WordLaws) where
       ap (λ o. number_before o (numbers_of ms (map decimal ns))) (laws.numbers_back m wide.0 n fits.0)
       ∙ ap (number_before (Some n)) (numbers_back ms ns wide.1 fits.1)
 
-  plain_decimals : (limits ns : List ℕ) → AllByRecursion (λ m. m < 2 ^ 64) limits → UpTo limits ns → AllByRecursion Plain (map decimal ns)
-  plain_decimals [] [] wide fits = tt
-  plain_decimals [] (n ∷ ns) wide fits = absurd fits
-  plain_decimals (m ∷ ms) [] wide fits = absurd fits
-  plain_decimals (m ∷ ms) (n ∷ ns) wide fits = (plain_decimal laws n (omega (arith, wide.0, fits.0)), plain_decimals ms ns wide.1 fits.1)
+  unreserved_decimals : (limits ns : List ℕ) → AllByRecursion (λ m. m < 2 ^ 64) limits → UpTo limits ns → AllByRecursion Unreserved (map decimal ns)
+  unreserved_decimals [] [] wide fits = tt
+  unreserved_decimals [] (n ∷ ns) wide fits = absurd fits
+  unreserved_decimals (m ∷ ms) [] wide fits = absurd fits
+  unreserved_decimals (m ∷ ms) (n ∷ ns) wide fits = (unreserved_decimal laws n (omega (arith, wide.0, fits.0)), unreserved_decimals ms ns wide.1 fits.1)
 
   -- packed moves
   run_back : (n : ℕ) → n < 2 ^ 16 → run_of (written_u16 n) ≡ Some (record { number = n; times = 1 })
   run_back n small =
-      ap (split_run (written_u16 n)) (no_star_split (written_u16 n) (fewer reserved star no_star (written_u16 n) (plain_u16 n small).1))
+      ap (split_run (written_u16 n)) (no_star_split (written_u16 n) (fewer reserved star no_star (written_u16 n) (unreserved_u16 n small).1))
       ∙ ap (λ o. run_from o (Some 1)) (laws.hex_back n small)
 
   runs_back : (ms : List ℕ) → AllByRecursion (λ m. m < 2 ^ 16) ms → runs_of (map written_u16 ms) ≡ Some ms
@@ -53,9 +53,9 @@ module _ (laws : WordLaws) where
   runs_back (m ∷ ms) small =
       ap (λ o. run_before o (runs_of (map written_u16 ms))) (run_back m small.0) ∙ ap (run_before (Some (record { number = m; times = 1 }))) (runs_back ms small.1)
 
-  plain_moves : (ms : List ℕ) → AllByRecursion (λ m. m < 2 ^ 16) ms → AllByRecursion Plain (map written_u16 ms)
-  plain_moves [] small = tt
-  plain_moves (m ∷ ms) small = (plain_u16 m small.0, plain_moves ms small.1)
+  unreserved_moves : (ms : List ℕ) → AllByRecursion (λ m. m < 2 ^ 16) ms → AllByRecursion Unreserved (map written_u16 ms)
+  unreserved_moves [] small = tt
+  unreserved_moves (m ∷ ms) small = (unreserved_u16 m small.0, unreserved_moves ms small.1)
 
 -- the limits are numbers of 64 bits
 two_wide_fit : AllByRecursion (λ m. m < 2 ^ 64) two_wide
@@ -70,46 +70,46 @@ line_limits_fit = (omega arith, (omega arith, (omega arith, (omega arith, tt))))
 longest_fits : AllByRecursion (λ m. m < 2 ^ 64) (longest_list ∷ [])
 longest_fits = (omega arith, tt)
 
--- the words of a call are plain
-plain_names : (c : Call) → is_plain (name_word c) ≡ true
-plain_names (kind k) = refl
-plain_names (size m t) = refl
-plain_names (row r) = refl
-plain_names (line l) = refl
-plain_names (reprice_row i c) = refl
-plain_names (reprice_line i c) = refl
-plain_names clear = refl
-plain_names (load bs) = refl
-plain_names settle = refl
-plain_names reopen = refl
-plain_names cost = refl
-plain_names (path n) = refl
-plain_names (between s q) = refl
-plain_names (check ms) = refl
+-- the words of a call are unreserved
+unreserved_names : (c : Call) → is_unreserved (name_word c) ≡ true
+unreserved_names (kind k) = refl
+unreserved_names (size m t) = refl
+unreserved_names (row r) = refl
+unreserved_names (line l) = refl
+unreserved_names (reprice_row i c) = refl
+unreserved_names (reprice_line i c) = refl
+unreserved_names clear = refl
+unreserved_names (load bs) = refl
+unreserved_names settle = refl
+unreserved_names reopen = refl
+unreserved_names cost = refl
+unreserved_names (path n) = refl
+unreserved_names (between s q) = refl
+unreserved_names (check ms) = refl
 
-pub plain_name : (c : Call) → Plain (name_word c)
-plain_name c = plain_text (name_word c) (plain_names c)
+pub unreserved_name : (c : Call) → Unreserved (name_word c)
+unreserved_name c = unreserved_text (name_word c) (unreserved_names c)
 
 module _ (laws : WordLaws) where
-  plain_file : (bs : List ℕ) → AllByRecursion (λ b. b < 2 ^ 8) bs → AllByRecursion Plain (file_words bs)
-  plain_file [] small = tt
-  plain_file (b ∷ bs) small = (plain_bytes b bs small, tt)
+  unreserved_file : (bs : List ℕ) → AllByRecursion (λ b. b < 2 ^ 8) bs → AllByRecursion Unreserved (file_words bs)
+  unreserved_file [] small = tt
+  unreserved_file (b ∷ bs) small = (unreserved_bytes b bs small, tt)
 
-  pub plain_words : (c : Call) → Fits c → AllByRecursion Plain (words_after c)
-  plain_words (kind k) fits = (plain_letter k, tt)
-  plain_words (size m t) fits = plain_decimals laws two_wide (m ∷ t ∷ []) two_wide_fit fits
-  plain_words (row r) fits = plain_decimals laws row_limits (row_numbers r) row_limits_fit fits
-  plain_words (line l) fits = plain_decimals laws line_limits (line_numbers l) line_limits_fit fits
-  plain_words (reprice_row i c) fits = plain_decimals laws two_wide (i ∷ c ∷ []) two_wide_fit fits
-  plain_words (reprice_line i c) fits = plain_decimals laws two_wide (i ∷ c ∷ []) two_wide_fit fits
-  plain_words clear fits = tt
-  plain_words (load bs) fits = plain_file bs fits
-  plain_words settle fits = tt
-  plain_words reopen fits = tt
-  plain_words cost fits = tt
-  plain_words (path n) fits = plain_decimals laws (longest_list ∷ []) (n ∷ []) longest_fits (fits, tt)
-  plain_words (between s q) fits = plain_decimals laws two_wide (s ∷ q ∷ []) two_wide_fit fits
-  plain_words (check ms) fits = plain_moves laws ms fits.0
+  pub unreserved_words : (c : Call) → Fits c → AllByRecursion Unreserved (words_after c)
+  unreserved_words (kind k) fits = (unreserved_letter k, tt)
+  unreserved_words (size m t) fits = unreserved_decimals laws two_wide (m ∷ t ∷ []) two_wide_fit fits
+  unreserved_words (row r) fits = unreserved_decimals laws row_limits (row_numbers r) row_limits_fit fits
+  unreserved_words (line l) fits = unreserved_decimals laws line_limits (line_numbers l) line_limits_fit fits
+  unreserved_words (reprice_row i c) fits = unreserved_decimals laws two_wide (i ∷ c ∷ []) two_wide_fit fits
+  unreserved_words (reprice_line i c) fits = unreserved_decimals laws two_wide (i ∷ c ∷ []) two_wide_fit fits
+  unreserved_words clear fits = tt
+  unreserved_words (load bs) fits = unreserved_file bs fits
+  unreserved_words settle fits = tt
+  unreserved_words reopen fits = tt
+  unreserved_words cost fits = tt
+  unreserved_words (path n) fits = unreserved_decimals laws (longest_list ∷ []) (n ∷ []) longest_fits (fits, tt)
+  unreserved_words (between s q) fits = unreserved_decimals laws two_wide (s ∷ q ∷ []) two_wide_fit fits
+  unreserved_words (check ms) fits = unreserved_moves laws ms fits.0
 
 -- they say the call
 says_kind : (k : KindName) → kind_word (letter_of k ∷ []) ≡ Some (kind k)
@@ -159,13 +159,13 @@ module _ (laws : WordLaws) where
 
   -- no byte of a written call is one that no word has, but for a space
   pub written_without : (also : ℕ → Bool) → ((b : ℕ) → reserved b ≡ false → also b ≡ false) → also 32 ≡ false → (c : Call) → Fits c → NoSeparator also (written c)
-  written_without also rules space c fits = line_without laws also rules space (name_word c) (words_after c) (plain_name c) (plain_words laws c fits)
+  written_without also rules space c fits = line_without laws also rules space (name_word c) (words_after c) (unreserved_name c) (unreserved_words laws c fits)
 
   pub unpointed : (c : Call) → Fits c → NoSeparator point (written c)
   unpointed c fits = written_without point no_point refl c fits
 
   pieces : (c : Call) → Fits c → pieces_of spacing (written c) ≡ name_word c ∷ words_after c
-  pieces c fits = spaced_pieces laws (name_word c) (words_after c) (plain_name c) (plain_words laws c fits)
+  pieces c fits = spaced_pieces laws (name_word c) (words_after c) (unreserved_name c) (unreserved_words laws c fits)
 
   pub reads_written : ReadsWritten
   reads_written = record {

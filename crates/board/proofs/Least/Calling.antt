@@ -8,8 +8,8 @@ use Rattle.board.specs.declared.row.RowKind.TheVariants.{Open}
 use Rattle.board.specs.declared.moves.Move.{Move}
 use Rattle.board.specs.declared.moves.Effect.TheVariants.{Opens, Closes}
 use Rattle.board.specs.declared.log.Log.{Log}
-use Rattle.board.specs.declared.log.Source.{Source}
-use Rattle.board.specs.declared.log.Source.TheVariants.{Call}
+use Rattle.board.specs.declared.log.Derivation.{Derivation as LogDerivation}
+use Rattle.board.specs.declared.log.Derivation.TheVariants.{Call}
 use Rattle.board.specs.declared.settling.Goal.{Goal}
 use Rattle.board.specs.Content.{Content}
 use Rattle.board.specs.Moves.{Place, mode, moment, On, place_number, Transition}
@@ -29,7 +29,7 @@ use Rattle.board.proofs.Rounds.Candidates.{move_eq}
 use Rattle.board.proofs.Rounds.Logging.{logged_in, in_logged, settled_is}
 use Rattle.board.proofs.Basics.Numbers.{number_in}
 use Rattle.board.proofs.Least.Bracketing.{goes_row, place_unique, bracket_leaves, bracket_enters, bracket_price, bracket_does, bracket_goes, effect_open, effect_close, not_both, not_close, open_kind, close_kind, close_is, stands_cheap}
-use Rattle.board.proofs.Least.Links.{entry_cost, joined_right}
+use Rattle.board.proofs.Least.Links.{record_cost, joined_right}
 use Rattle.board.proofs.Least.Winning.{wins_more}
 
 -- the front and inside of a call that makes a goal
@@ -54,8 +54,8 @@ call_of {m} {c} {l} {g} o w t (call a b {o = o'} {w = w'} {q} {k} {l = n} {n = b
     let eo : o'.row ≡ o = cc in
     let ew : w'.row ≡ w = cc in
     let et : moment a.to ≡ t = cc in
-    let ra = logged_in l.entries l.count a i in
-    let rb = logged_in l.entries l.count b j in
+    let ra = logged_in l.records l.count a i in
+    let rb = logged_in l.records l.count b j in
     let mo : o' ≡ bare o = move_eq o' (bare o) eo (bracket_alone (opens_not_quiet bracket) u).0 in
     let mw : w' ≡ bare w = move_eq w' (bare w) ew (bracket_alone (closes_not_quiet bracket) v).0 in
     record {
@@ -113,8 +113,8 @@ module _ {m : Meaning} {c : Content} {l : Log} (laws : Lawful m) (ready : Ready 
     is_tight {w} {t} x =
         let hk = transition_cost laws ready.sound x.opens in
         let hl = transition_cost laws ready.sound x.closes in
-        let ha = entry_cost laws ready x.front x.front_in in
-        let hb = entry_cost laws ready x.inside x.inside_in in
+        let ha = record_cost laws ready x.front x.front_in in
+        let hb = record_cost laws ready x.inside x.inside_in in
         let same = joined_right laws ready _ _ _ _ ha hk hb hl ∙ x.costs in
         record {
           front = x.front;
@@ -214,8 +214,8 @@ module _ {m : Meaning} {c : Content} {l : Log} (laws : Lawful m) (ready : Ready 
               let price : x.price ≡ a.cost = bracket_price o a row_is x.opens in
               let hk = transition_cost laws ready.sound x.opens in
               let hl = transition_cost laws ready.sound x.closes in
-              let ha = entry_cost laws ready x.front x.front_in in
-              let hb = entry_cost laws ready x.inside x.inside_in in
+              let ha = record_cost laws ready x.front x.front_in in
+              let hb = record_cost laws ready x.inside x.inside_in in
               let hs = (ready.sound.sound_rows n s.by s.found).price in
               let before = laws.join_cost _ _ (laws.join_cost _ _ ha hk) hb in
               let low : NoDearer m (m.join (m.join (m.join (numbered l x.front).cost x.price) (numbered l x.inside).cost) s.by.cost) g.cost = subst (NoDearer m (m.join (m.join (m.join (numbered l x.front).cost x.price) (numbered l x.inside).cost) s.by.cost)) x.costs (laws.mono_right _ _ _ hs hl before (stands_cheap x.closes s)) in
@@ -253,14 +253,14 @@ module _ {m : Meaning} {c : Content} {l : Log} (laws : Lawful m) (ready : Ready 
             let nj = not_close b.kind rows.closes in
             let go-in : Transition m c (bare o) (numbered l i).to (numbered l j).from a.cost (Opens a.label) = bracket_goes o a row_is (Opens a.label) (effect_open a opens) ni.0 ni.1 (numbered l i).to (numbered l j).from (ap (λ (z : Place). mode z) fi.2) (subst (λ (n : ℕ). n < c.moments) (sym (ap (λ (z : Place). moment z) fi.2)) there) (fj.1 ∙ ap (λ (n : ℕ). (a.to, n)) (sym (ap (λ (z : Place). moment z) fi.2))) in
             let go-out : Transition m c (bare w) (numbered l j).to g.to b.cost (Closes a.label) = bracket_goes w b rows.closing (Closes a.label) (effect_close b rows.closes ∙ ap Closes rows.same) nj.0 nj.1 (numbered l j).to g.to (ap (λ (z : Place). mode z) fj.2) (subst (λ (n : ℕ). n < c.moments) (sym (ap (λ (z : Place). moment z) fj.2)) on.1.1) (place_eq g.to (b.to, moment (numbered l j).to) (sym rows.enters) (sym (ap (λ (z : Place). moment z) fj.2))) in
-            let si = sym (settled_is l.entries l.count i fi.0) in
-            let sj = sym (settled_is l.entries l.count j fj.0) in
+            let si = sym (settled_is l.records l.count i fi.0) in
+            let sj = sym (settled_is l.records l.count j fj.0) in
             let is : call_record m (nth_record l i) (bare o) a.cost (nth_record l j) (bare w) b.cost g.to ≡ record_of (records l) (made g (Call i j o w t)) =
             λ z. record { from = fi.1 z; to = g.to; cost = costs z; derivation = by_call o w (moment (fi.2 z)); moves = (si z).moves ++ (bare o ∷ ((sj z).moves ++ (bare w ∷ []))) } in
             record {
               refers = (fi.0, fj.0);
               makes = record {
-                candidate = subst (Candidate m c (records l)) is (call (nth_record l i) (nth_record l j) (in_logged l.entries l.count i fi.0) go-in (in_logged l.entries l.count j fj.0) go-out);
+                candidate = subst (Candidate m c (records l)) is (call (nth_record l i) (nth_record l j) (in_logged l.records l.count i fi.0) go-in (in_logged l.records l.count j fj.0) go-out);
                 starts = refl;
                 ends = refl;
                 costs = refl;
@@ -273,7 +273,7 @@ module _ {m : Meaning} {c : Content} {l : Log} (laws : Lawful m) (ready : Ready 
       pub call_none_by : (xs : List ℕ) → Gathered (TightAt m c l g) 64 xs → (n : ℕ) → length xs ≤ n → NoneWhile w xs n → Finds m c l g (CallsBy o w) None
       call_none_by xs all n h old y k (t, d) = let x = call_parts o w t y k d in let f = listed xs all x in let f1 = f.1 in old f.0 (omega arith) t (moment_in x) f.2 y k d
 
-      pub call_wins_by : (xs : List ℕ) → Gathered (TightAt m c l g) 64 xs → (n : ℕ) (p : Place) (s : Source) → n < length xs → place_number c p ≡ get_or xs n 0 → moment p < c.moments → mode p ≡ a.from → NoneWhile w xs n → Wins m c l g (CallAt o w (moment p)) s → Wins m c l g (CallsBy o w) s
+      pub call_wins_by : (xs : List ℕ) → Gathered (TightAt m c l g) 64 xs → (n : ℕ) (p : Place) (s : LogDerivation) → n < length xs → place_number c p ≡ get_or xs n 0 → moment p < c.moments → mode p ≡ a.from → NoneWhile w xs n → Wins m c l g (CallAt o w (moment p)) s → Wins m c l g (CallsBy o w) s
       call_wins_by xs all n p s hn number_is there from old wins = wins_more m c l g (CallAt o w (moment p)) (CallsBy o w) s wins (moment p, wins.one) (λ y k q.
           let x = call_parts o w q.0 y k q.1 in
           let f = listed xs all x in
@@ -324,7 +324,7 @@ module _ (m : Meaning) (c : Content) (l : Log) (g : Goal) where
       let r = goes_row x.closes in
       old w (omega arith) y k (t, d)
 
-  pub first_close : (o n : ℕ) (s : Source) → NoCloseBelow o n → Wins m c l g (CallsBy o n) s → Wins m c l g (CallsOpened o) s
+  pub first_close : (o n : ℕ) (s : LogDerivation) → NoCloseBelow o n → Wins m c l g (CallsBy o n) s → Wins m c l g (CallsOpened o) s
   first_close o n s old w = wins_more m c l g (CallsBy o n) (CallsOpened o) s w (n, w.one) (λ y k q. ⊎_elim
       (λ (h : q.0 < n). absurd (old q.0 h y k q.1))
       (λ (h : n ≤ q.0). ⊎_elim
@@ -345,7 +345,7 @@ module _ (m : Meaning) (c : Content) (l : Log) (g : Goal) where
       let r = goes_row x.opens in
       old o (omega arith) y k (w, (t, d))
 
-  pub first_open : (n : ℕ) (s : Source) → NoOpenBelow n → Wins m c l g (CallsOpened n) s → Wins m c l g Calls s
+  pub first_open : (n : ℕ) (s : LogDerivation) → NoOpenBelow n → Wins m c l g (CallsOpened n) s → Wins m c l g Calls s
   first_open n s old w = wins_more m c l g (CallsOpened n) Calls s w (n, w.one) (λ y k q. ⊎_elim
       (λ (h : q.0 < n). absurd (old q.0 h y k q.1))
       (λ (h : n ≤ q.0). ⊎_elim

@@ -17,7 +17,7 @@ use Rattle.board.specs.Winning.{Gathered, LineTo, TightAt, GoalOn, Serve, ServeI
 use Rattle.board.proofs.Basics.Membership.{some_eq, none_some}
 use Rattle.board.proofs.Basics.Numbers.{number_in}
 use Rattle.board.proofs.Least.Lowering.{attained_cost}
-use Rattle.board.proofs.Least.Links.{link_cost, entry_cost}
+use Rattle.board.proofs.Least.Links.{link_cost, record_cost}
 use Rattle.std.proofs.Math.ListN.{get_or-append}
 use Rattle.std.proofs.Math.Seq.{get_or-append_seam}
 
@@ -93,7 +93,7 @@ module _ {m : Meaning} {c : Content} {l : Log} (laws : Lawful m) (ready : Ready 
     pub tight_dear : (links : List ℕ) (i : ℕ) → length links ≡ 4096 → Attained m (Link m c l) links → Bounds m (Link m c l) links → get_or l.index (place_number c goal.from * 64 + r) None ≡ Some i → m.no_dearer (m.join (numbered l i).cost (get_or links (r * 64 + place_number c goal.to) 0)) goal.cost ≡ false → Cost m goal.cost → Gathered (TightAt m c l goal) (r + 1) xs
     tight_dear links i long attained bounds e dear goal-cost = gathered_skip g (λ p.
         let same : i ≡ p.front = some_eq _ _ _ e (tight_index p) in
-        let a = entry_cost laws ready p.front p.front_in in
+        let a = record_cost laws ready p.front p.front_in in
         let q = number_in c goal.to ready.sound.few_places on.1 in
         let link-cost' = attained_cost laws (link_cost laws ready) links attained (r * 64 + place_number c goal.to) (omega arith) in
         let price = link_cost laws ready _ _ p.link in

@@ -30,17 +30,17 @@ use Rattle.board.proofs.Least.Lowering.{lowered_one, lowered_for, lowered_same, 
 module _ {m : Meaning} {c : Content} {l : Log} (laws : Lawful m) (ready : Ready m c l) where
   -- the records cost costs
   pub all_priced : Priced m (records l)
-  all_priced a h = let r = logged_in l.entries l.count a h in subst (λ (x : Record). Cost m x.cost) (sym r.2) (ready.book.kept r.0 r.1).price
+  all_priced a h = let r = logged_in l.records l.count a h in subst (λ (x : Record). Cost m x.cost) (sym r.2) (ready.book.kept r.0 r.1).price
 
-  pub entry_cost : (i : ℕ) → i < l.count → Cost m (numbered l i).cost
-  entry_cost i h = (ready.book.kept i h).price
+  pub record_cost : (i : ℕ) → i < l.count → Cost m (numbered l i).cost
+  record_cost i h = (ready.book.kept i h).price
 
-  -- an entry between brackets
+  -- a record between brackets
   pub bracketed_fits : (j : ℕ) → j < l.count → (o w p k : ℕ) → BracketedBy m c (numbered l j) o w p k → (p < 4096) × Cost m k
   bracketed_fits j h o w p k x =
       let a = small_number ready.sound x.place (transition_from ready.sound x.opens) in
       let b = small_number ready.sound x.exit (transition_to ready.sound x.closes) in
-      (omega (arith, x.at), subst (Cost m) (sym x.cost_is) (laws.join_cost _ _ (transition_cost laws ready.sound x.opens) (laws.join_cost _ _ (entry_cost j h) (transition_cost laws ready.sound x.closes))))
+      (omega (arith, x.at), subst (Cost m) (sym x.cost_is) (laws.join_cost _ _ (transition_cost laws ready.sound x.opens) (laws.join_cost _ _ (record_cost j h) (transition_cost laws ready.sound x.closes))))
 
   pub link_cost : (p k : ℕ) → Link m c l p k → Cost m k
   link_cost p k (inl x) = plain_cost laws ready.sound p k x
@@ -60,14 +60,14 @@ module _ {m : Meaning} {c : Content} {l : Log} (laws : Lawful m) (ready : Ready 
   pub joined_right : (a k b n : ℕ) → Cost m a → Cost m k → Cost m b → Cost m n → m.join a (m.join k (m.join b n)) ≡ m.join (m.join (m.join a k) b) n
   joined_right a k b n ha hk hb hn = sym (laws.assoc a k (m.join b n) ha hk (laws.join_cost b n hb hn)) ∙ sym (laws.assoc (m.join a k) b n (laws.join_cost a k ha hk) hb hn)
 
-  -- an entry and then a link make a candidate
+  -- a record and then a link make a candidate
   followed_candidate : (i q k : ℕ) → i < l.count → q < 64 → Link m c l (place_number c (numbered l i).to * 64 + q) k → CandidateAt m c l (place_number c (numbered l i).from * 64 + q) (m.join (numbered l i).cost k)
   followed_candidate i q k h hq (inl (v, x)) =
       let b = small_number ready.sound x.exit (transition_to ready.sound x.goes) in
       let place : (numbered l i).to ≡ x.place = number_eq c _ _ (ready.book.kept i h).to_on (transition_from ready.sound x.goes) (omega (arith, x.at)) in
       record {
         it = step_record m (nth_record l i) v x.exit k;
-        candidate = step (nth_record l i) (in_logged l.entries l.count i h) (subst (λ (p : Place). Transition m c v p x.exit k Quiet) (sym place) x.goes);
+        candidate = step (nth_record l i) (in_logged l.records l.count i h) (subst (λ (p : Place). Transition m c v p x.exit k Quiet) (sym place) x.goes);
         at = omega (arith, x.at);
         cost_is = refl;
       }
@@ -76,9 +76,9 @@ module _ {m : Meaning} {c : Content} {l : Log} (laws : Lawful m) (ready : Ready 
       let place : (numbered l i).to ≡ x.place = number_eq c _ _ (ready.book.kept i h).to_on (transition_from ready.sound x.opens) (omega (arith, x.at)) in
       record {
         it = call_record m (nth_record l i) (bare o) x.price (nth_record l j) (bare w) x.last x.exit;
-        candidate = call (nth_record l i) (nth_record l j) (in_logged l.entries l.count i h) (subst (λ (p : Place). Transition m c (bare o) p (numbered l j).from x.price (Opens x.bracket)) (sym place) x.opens) (in_logged l.entries l.count j hj) x.closes;
+        candidate = call (nth_record l i) (nth_record l j) (in_logged l.records l.count i h) (subst (λ (p : Place). Transition m c (bare o) p (numbered l j).from x.price (Opens x.bracket)) (sym place) x.opens) (in_logged l.records l.count j hj) x.closes;
         at = omega (arith, x.at);
-        cost_is = ap (m.join (numbered l i).cost) x.cost_is ∙ joined_right (numbered l i).cost x.price (numbered l j).cost x.last (entry_cost i h) (transition_cost laws ready.sound x.opens) (entry_cost j hj) (transition_cost laws ready.sound x.closes);
+        cost_is = ap (m.join (numbered l i).cost) x.cost_is ∙ joined_right (numbered l i).cost x.price (numbered l j).cost x.last (record_cost i h) (transition_cost laws ready.sound x.opens) (record_cost j hj) (transition_cost laws ready.sound x.closes);
       }
 
   pub candidate_cost_at : (p k : ℕ) → CandidateAt m c l p k → Cost m k
@@ -88,7 +88,7 @@ module _ {m : Meaning} {c : Content} {l : Log} (laws : Lawful m) (ready : Ready 
   attained_cost_within xs long a p h = attained_cost laws candidate_cost_at xs a p (omega arith)
 
   pub followed_waits : (i q k : ℕ) → i < l.count → q < 64 → (k ≡ m.worst) ⊎ Link m c l (place_number c (numbered l i).to * 64 + q) k → (m.join (numbered l i).cost k ≡ m.worst) ⊎ CandidateAt m c l (place_number c (numbered l i).from * 64 + q) (m.join (numbered l i).cost k)
-  followed_waits i q k h hq (inl e) = inl (ap (m.join (numbered l i).cost) e ∙ laws.worst_right _ (entry_cost i h))
+  followed_waits i q k h hq (inl e) = inl (ap (m.join (numbered l i).cost) e ∙ laws.worst_right _ (record_cost i h))
   followed_waits i q k h hq (inr x) = inr (followed_candidate i q k h hq x)
 
   -- following the links of a list
@@ -99,7 +99,7 @@ module _ {m : Meaning} {c : Content} {l : Log} (laws : Lawful m) (ready : Ready 
     pub follow_fits : (xs : List ℕ) → length xs ≡ 4096 → (n p k : ℕ) → n ≤ 64 → Among (FollowedBy m c links (numbered l i)) n p k → (p < length xs) × Cost m k
     follow_fits xs wide n p k h (q, hq, (at, is)) =
         let a = from_small i within in
-        (omega arith, subst (Cost m) (sym is) (laws.join_cost _ _ (entry_cost i within) (attained_cost laws link_cost links attained _ (link_at q (omega arith)))))
+        (omega arith, subst (Cost m) (sym is) (laws.join_cost _ _ (record_cost i within) (attained_cost laws link_cost links attained _ (link_at q (omega arith)))))
 
     pub follow_waits : (q p k : ℕ) → q < 64 → p ≡ place_number c (numbered l i).from * 64 + q → k ≡ m.join (numbered l i).cost (get_or links (place_number c (numbered l i).to * 64 + q) 0) → (k ≡ m.worst) ⊎ CandidateAt m c l p k
     follow_waits q p k h at is = subst₂ (λ (s n : ℕ). (n ≡ m.worst) ⊎ CandidateAt m c l s n) (sym at) (sym is) (followed_waits i q _ within h (attained _ (link_at q h)))
@@ -107,7 +107,7 @@ module _ {m : Meaning} {c : Content} {l : Log} (laws : Lawful m) (ready : Ready 
     pub follow_only : {xs ys : List ℕ} (q p k : ℕ) → p ≡ place_number c (numbered l i).from * 64 + q → k ≡ m.join (numbered l i).cost (get_or links (place_number c (numbered l i).to * 64 + q) 0) → Lowered m (CandidateAt m c l) xs ys (Just p k) → Lowered m (CandidateAt m c l) xs ys (FollowedBy m c links (numbered l i) q)
     follow_only q p k at is g = lowered_for g (λ p' k' x. (x.0 ∙ sym at, x.1 ∙ sym is))
 
-  -- following one link from each entry that ends at its place
+  -- following one link from each record that ends at its place
   module _ (r q cost : ℕ) (hr : r < 64) (hq : q < 64) (link : (cost ≡ m.worst) ⊎ Link m c l (r * 64 + q) cost) where
     link_is_cost : Cost m cost
     link_is_cost = worst_or laws link_cost cost (r * 64 + q) link
@@ -123,7 +123,7 @@ module _ {m : Meaning} {c : Content} {l : Log} (laws : Lawful m) (ready : Ready 
     follow_to_fits xs wide n p k h (s, hs, x) =
         let f = front_found s x.front x.front_is in
         let at = x.at in
-        (omega arith, subst (Cost m) (sym x.cost_is) (laws.join_cost _ _ (entry_cost x.front f.0) link_is_cost))
+        (omega arith, subst (Cost m) (sym x.cost_is) (laws.join_cost _ _ (record_cost x.front f.0) link_is_cost))
 
     pub follow_to_waits : (s i p k : ℕ) → get_or l.index (s * 64 + r) None ≡ Some i → p ≡ s * 64 + q → k ≡ m.join (numbered l i).cost cost → (k ≡ m.worst) ⊎ CandidateAt m c l p k
     follow_to_waits s i p k found at is =
@@ -177,11 +177,11 @@ module _ {m : Meaning} {c : Content} {l : Log} (laws : Lawful m) (ready : Ready 
               laws.trans _ _ _ (attained_cost laws candidate_cost_at waits.costs w.attained p (omega (arith, w.long))) (attained_cost laws candidate_cost_at waiting.costs ok.held_waiting.attained p fits.0) fits.1 (w.lower p fits.0) old)
               (cases_eq (place_number c (numbered l i).to * 64 + u) (r * 64 + q))
 
--- an entry between an open and a close row
+-- a record between an open and a close row
 module _ {m : Meaning} {c : Content} {l : Log} (laws : Lawful m) (ready : Ready m c l) (j : ℕ) (within : j < l.count) (o : ℕ) where
   -- no close row, or one that does not follow on
   module _ (place : Place) (way : Way) (opens : Transition m c (bare o) place (numbered l j).from way.cost (Opens way.bracket)) (w : ℕ) where
-    -- what opens before the entry does so from there
+    -- what opens before the record does so from there
     same_opening : (p k : ℕ) (x : BracketedBy m c (numbered l j) o w p k) → (x.place ≡ place) × (x.price ≡ way.cost) × (x.bracket ≡ way.bracket)
     same_opening p k x =
         let back = transition_back x.opens opens in
@@ -240,7 +240,7 @@ module _ {m : Meaning} {c : Content} {l : Log} (laws : Lawful m) (ready : Ready 
   no_open_row e w p k x = none_some _ _ e x.opens.found
 
   module _ (a : Row) (row_is : slice_get c.rows o ≡ Some a) where
-    -- where it opens before the entry
+    -- where it opens before the record
     opens_where : (w p k : ℕ) (x : BracketedBy m c (numbered l j) o w p k) → x.place ≡ (a.from, moment (numbered l j).from)
     opens_where w p k x = place_eq x.place (a.from, moment (numbered l j).from) (bracket_leaves o a row_is x.opens) (bracket_alone (opens_not_quiet x.bracket) x.opens).1
 

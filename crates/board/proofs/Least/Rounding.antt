@@ -6,7 +6,7 @@ use Rattle.costs.specs.Meaning.{Meaning, Lawful, Cost, NoDearer}
 use Rattle.board.specs.declared.moves.Move.{Move}
 use Rattle.board.specs.declared.moves.Effect.TheVariants.{Quiet, Opens, Closes}
 use Rattle.board.specs.declared.log.Log.{Log}
-use Rattle.board.specs.declared.log.Source.{Source}
+use Rattle.board.specs.declared.log.Derivation.{Derivation as LogDerivation}
 use Rattle.board.specs.declared.settling.Goal.{Goal}
 use Rattle.board.specs.declared.settling.Minima.{Minima}
 use Rattle.board.specs.Content.{Content}
@@ -27,7 +27,7 @@ use Rattle.board.proofs.Rounds.Logging.{logged_in, in_logged}
 use Rattle.board.proofs.Basics.Numbers.{pair_in, number_in, pair_parts}
 use Rattle.board.proofs.Least.Lowering.{attained_cost}
 use Rattle.board.proofs.Least.Bracketing.{small_number, place_unique}
-use Rattle.board.proofs.Least.Links.{all_priced, link_cost, entry_cost, candidate_cost_at, joined_right}
+use Rattle.board.proofs.Least.Links.{all_priced, link_cost, record_cost, candidate_cost_at, joined_right}
 use Rattle.board.proofs.Least.Winning.{wins_more}
 
 -- a candidate is a step or a call
@@ -37,10 +37,10 @@ step_or_call (call a b {o} {w} i t j u) = inr (o.row, (w.row, (_, refl)))
 
 -- the first step wins, and where there is none the first call
 module _ (m : Meaning) (c : Content) (l : Log) (g : Goal) where
-  pub step_wins_all : (s : Source) → Wins m c l g Steps s → Wins m c l g Any s
+  pub step_wins_all : (s : LogDerivation) → Wins m c l g Steps s → Wins m c l g Any s
   step_wins_all s w = wins_more m c l g Steps Any s w tt (λ y k q. ⊎_elim (λ p. inl p) (λ p. inr (subst₂ (λ (x z : Derivation). Lex (derivation_key x) (derivation_key z)) (sym w.one.1) (sym p.1.1.1) (inl (omega arith)))) (step_or_call k.candidate))
 
-  pub call_wins_all : (s : Source) → Finds m c l g Steps None → Wins m c l g Calls s → Wins m c l g Any s
+  pub call_wins_all : (s : LogDerivation) → Finds m c l g Steps None → Wins m c l g Calls s → Wins m c l g Any s
   call_wins_all s none w = wins_more m c l g Calls Any s w tt (λ y k q. ⊎_elim (λ p. absurd (none y k p)) (λ p. inl p) (step_or_call k.candidate))
 
   pub none_makes : Finds m c l g Steps None → Finds m c l g Calls None → (y : Record) → Makes m c l g y → ⊥
@@ -50,12 +50,12 @@ module _ {m : Meaning} {c : Content} {l : Log} {s : Minima} (laws : Lawful m) (s
   pub waiting_costs : (p : ℕ) → p < 4096 → Cost m (get_or s.waiting.costs p 0)
   waiting_costs p h = attained_cost laws (candidate_cost_at laws state.ready) s.waiting.costs state.linked.held_waiting.attained p (omega (arith, state.linked.held_waiting.long))
 
-  -- an entry with a link behind it costs no less than what waits
+  -- a record with a link behind it costs no less than what waits
   link_covered : (i q k : ℕ) → i < l.count → q < 64 → Link m c l (place_number c (numbered l i).to * 64 + q) k → NoDearer m (get_or s.waiting.costs (place_number c (numbered l i).from * 64 + q) 0) (m.join (numbered l i).cost k)
   link_covered i q k h hq x =
       let a = small_number state.ready.sound _ (state.ready.book.kept i h).from_on in
       let b = small_number state.ready.sound _ (state.ready.book.kept i h).to_on in
-      let ha = entry_cost laws state.ready i h in
+      let ha = record_cost laws state.ready i h in
       let hl = attained_cost laws (link_cost laws state.ready) s.links state.linked.held_links.attained (place_number c (numbered l i).to * 64 + q) (omega (arith, state.linked.held_links.long)) in
       let hk = link_cost laws state.ready _ k x in
       laws.trans _ _ _ (waiting_costs _ (omega arith)) (laws.join_cost _ _ ha hl) (laws.join_cost _ _ ha hk) (state.linked.followed i h _ _ (q, hq, (refl, refl))) (laws.mono_right _ _ _ hl hk ha (state.links_bounds _ k x))
@@ -63,13 +63,13 @@ module _ {m : Meaning} {c : Content} {l : Log} {s : Minima} (laws : Lawful m) (s
   -- no candidate is cheaper than what waits for its pair
   pub covered : {y : Record} → Candidate m c (records l) y → NoDearer m (get_or s.waiting.costs (pair_of c y.from y.to) 0) y.cost
   covered (step a {v} {q} {k} i t) =
-      let r = logged_in l.entries l.count a i in
+      let r = logged_in l.records l.count a i in
       let t' = subst (λ (p : Place). Transition m c v p q k Quiet) (ap (λ (x : Record). x.to) r.2) t in
       let hq = small_number state.ready.sound q (transition_to state.ready.sound t) in
       subst (λ (x : Record). NoDearer m (get_or s.waiting.costs (pair_of c x.from q) 0) (m.join x.cost k)) (sym r.2) (link_covered r.0 (place_number c q) k r.1 hq (inl (v, record { place = (numbered l r.0).to; exit = q; goes = t'; at = refl })))
   covered (call a b {o} {w} {q} {k} {l = last} {n} i t j u) =
-      let ra = logged_in l.entries l.count a i in
-      let rb = logged_in l.entries l.count b j in
+      let ra = logged_in l.records l.count a i in
+      let rb = logged_in l.records l.count b j in
       let mo : o ≡ bare o.row = move_eq o (bare o.row) refl (bracket_alone (opens_not_quiet n) t).0 in
       let mw : w ≡ bare w.row = move_eq w (bare w.row) refl (bracket_alone (closes_not_quiet n) u).0 in
       let t' : Transition m c (bare o.row) (numbered l ra.0).to (numbered l rb.0).from k (Opens n) = subst (λ (z : Move). Transition m c z (numbered l ra.0).to (numbered l rb.0).from k (Opens n)) mo (subst₂ (λ (p r : Place). Transition m c o p r k (Opens n)) (ap (λ (x : Record). x.to) ra.2) (ap (λ (x : Record). x.from) rb.2) t) in
@@ -93,13 +93,13 @@ module _ {m : Meaning} {c : Content} {l : Log} {s : Minima} (laws : Lawful m) (s
           cost_is = refl;
         },
       )) in
-      let same = joined_right laws state.ready (numbered l ra.0).cost k (numbered l rb.0).cost last (entry_cost laws state.ready ra.0 ra.1) (transition_cost laws state.ready.sound t) (entry_cost laws state.ready rb.0 rb.1) (transition_cost laws state.ready.sound u) in
+      let same = joined_right laws state.ready (numbered l ra.0).cost k (numbered l rb.0).cost last (record_cost laws state.ready ra.0 ra.1) (transition_cost laws state.ready.sound t) (record_cost laws state.ready rb.0 rb.1) (transition_cost laws state.ready.sound u) in
       subst₂ (λ (x z : Record). NoDearer m (get_or s.waiting.costs (pair_of c x.from q) 0) (m.join (m.join (m.join x.cost k) z.cost) last)) (sym ra.2) (sym rb.2) (subst (NoDearer m (get_or s.waiting.costs (pair_of c (numbered l ra.0).from q) 0)) same low)
 
   -- a candidate's places
   candidate_on : {y : Record} → Candidate m c (records l) y → On c y.from × On c y.to
-  candidate_on (step a i t) = let r = logged_in l.entries l.count a i in (subst (λ (x : Record). On c x.from) (sym r.2) (state.ready.book.kept r.0 r.1).from_on, transition_to state.ready.sound t)
-  candidate_on (call a b i t j u) = let r = logged_in l.entries l.count a i in (subst (λ (x : Record). On c x.from) (sym r.2) (state.ready.book.kept r.0 r.1).from_on, transition_to state.ready.sound u)
+  candidate_on (step a i t) = let r = logged_in l.records l.count a i in (subst (λ (x : Record). On c x.from) (sym r.2) (state.ready.book.kept r.0 r.1).from_on, transition_to state.ready.sound t)
+  candidate_on (call a b i t j u) = let r = logged_in l.records l.count a i in (subst (λ (x : Record). On c x.from) (sym r.2) (state.ready.book.kept r.0 r.1).from_on, transition_to state.ready.sound u)
 
   pair_small : {y : Record} → Candidate m c (records l) y → pair_of c y.from y.to < 4096
   pair_small {y} k = let on = candidate_on k in pair_in c y.from y.to state.ready.sound.few_places on.0 on.1
@@ -115,7 +115,7 @@ module _ {m : Meaning} {c : Content} {l : Log} {s : Minima} (laws : Lawful m) (s
           let on = candidate_on k in
           let kept = state.ready.book.kept i f.0 in
           let z = pair_parts c (numbered l i).from (numbered l i).to y.from y.to state.ready.sound.few_places kept.to_on on.1 f.1 in
-          absurd (u (nth_record l i) (in_logged l.entries l.count i f.0) (number_eq c _ _ kept.from_on on.0 z.0) (number_eq c _ _ kept.to_on on.1 z.1))
+          absurd (u (nth_record l i) (in_logged l.records l.count i f.0) (number_eq c _ _ kept.from_on on.0 z.0) (number_eq c _ _ kept.to_on on.1 z.1))
 
   pub none_left : LeastOf m l s.waiting.costs 4096 None → (y : Record) → Candidate m c (records l) y → Unrecorded (records l) y.from y.to → NoDearer m m.worst y.cost
   none_left k y i u = laws.trans _ _ _ laws.worst_cost (waiting_costs _ (pair_small i)) (candidate_cost laws state.ready.sound (all_priced laws state.ready) i) (k _ (pair_small i) (unnumbered y i u)) (covered i)
@@ -152,7 +152,7 @@ module _ {m : Meaning} {c : Content} {l : Log} {s : Minima} (laws : Lawful m) (s
     pub goal_fresh : get_or l.index (pair_of c g.from g.to) None ≡ None
     goal_fresh = ap (λ (n : ℕ). get_or l.index n None) goal_pair ∙ k.unsettled
 
-    module _ (src : Source) (wins : Wins m c l g Any src) where
+    module _ (src : LogDerivation) (wins : Wins m c l g Any src) where
       pub goal_kept : Kept m c (made g src)
       goal_kept = let on = goal_on in record { price = goal_cost; from_on = on.0; to_on = on.1 }
 
@@ -193,7 +193,7 @@ module _ {m : Meaning} {c : Content} {l : Log} {s : Minima} (laws : Lawful m) (s
       pub round_is : Round m c (records l) (record_of (records l) (made g src))
       round_is = record {
         candidate = wins.makes.candidate;
-        unsettled = λ a h e f. let r = logged_in l.entries l.count a h in
+        unsettled = λ a h e f. let r = logged_in l.records l.count a h in
             none_some _ _ goal_fresh (ap₂ (λ (x y : Place). get_or l.index (pair_of c x y) None) (sym e) (sym f) ∙ (ap (λ (z : Record). get_or l.index (pair_of c z.from z.to) None) r.2 ∙ state.ready.book.found r.0 r.1));
         below = subst (λ (n : ℕ). Cheaper m n m.worst) (sym cost_is) k.below;
         first = goes_first;

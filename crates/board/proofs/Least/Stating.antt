@@ -1,10 +1,10 @@
--- What holds between rounds, kept as an entry is settled.
+-- What holds between rounds, kept as a record is settled.
 use Rattle.std.proofs.Common.{◌≡◌, ◌≢◌, ℕ, ◌+◌, ◌*◌, ◌<◌, min, Bool, List, ◌∷◌, length, get_or, set, replicate, Some, None, Option, get_or-set_other, sym, refl, ap, ◌∙◌, subst, inl, inr, ⊎_elim, arith}
 use lib.ListN.{length-replicate}
 use Rattle.std.proofs.lemmas.List.{get_or-replicate}
 use Rattle.std.proofs.lemmas.Bool.{cases_eq}
 use Rattle.costs.specs.Meaning.{Meaning, Lawful, Cost, NoDearer}
-use Rattle.board.specs.declared.log.Entry.{Entry}
+use Rattle.board.specs.declared.log.Record.{Record as LogRecord}
 use Rattle.board.specs.declared.log.Log.{Log}
 use Rattle.board.specs.declared.settling.Minima.{Minima}
 use Rattle.board.specs.declared.settling.Waiting.{Waiting}
@@ -25,15 +25,15 @@ use Rattle.board.proofs.Least.Plain.{worst_attained}
 use Rattle.board.proofs.Least.Bracketing.{stands_goes, stands_cheap}
 use Rattle.board.proofs.Least.Links.{link_cost, link_in, candidate_cost_at, follow_fits}
 
--- the log l' is l with the entry r more
-pub record Extended (m : Meaning) (c : Content) (l l' : Log) (r : Entry) : Type 0 where
+-- the log l' is l with the record r more
+pub record Extended (m : Meaning) (c : Content) (l l' : Log) (r : LogRecord) : Type 0 where
   pub ready : Ready m c l'
   pub count : l'.count ≡ l.count + 1
   pub new : numbered l' l.count ≡ r
   pub old : (i : ℕ) → i < l.count → numbered l' i ≡ numbered l i
   pub more : records l' ≡ record_of (records l) r ∷ records l
 
-pub extended : {m : Meaning} {c : Content} {l : Log} (ready : Ready m c l) {p : ℕ} {r : Entry} → p ≡ pair_of c r.from r.to → get_or l.index (pair_of c r.from r.to) None ≡ None → Kept m c r → Refers l.count r.source → {n : ℕ} → n ≡ min (length (spelled (records l) r.source)) 65536 → {l' : Log} → l' ≡ pushed l p r n → Extended m c l l' r
+pub extended : {m : Meaning} {c : Content} {l : Log} (ready : Ready m c l) {p : ℕ} {r : LogRecord} → p ≡ pair_of c r.from r.to → get_or l.index (pair_of c r.from r.to) None ≡ None → Kept m c r → Refers l.count r.derivation → {n : ℕ} → n ≡ min (length (spelled (records l) r.derivation)) 65536 → {l' : Log} → l' ≡ pushed l p r n → Extended m c l l' r
 extended {m} {c} {l} ready {p} {r} at fresh kept refers {n} is {l'} e = subst (λ (x : Log). Extended m c l x r) (sym e) (record {
   ready = pushed_ready ready at fresh kept refers is;
   count = refl;
@@ -42,11 +42,11 @@ extended {m} {c} {l} ready {p} {r} at fresh kept refers {n} is {l'} e = subst (�
   more = pushed_records ready at fresh kept refers is;
 })
 
-module _ {m : Meaning} {c : Content} {l l' : Log} {r : Entry} (laws : Lawful m) (x : Extended m c l l' r) where
+module _ {m : Meaning} {c : Content} {l l' : Log} {r : LogRecord} (laws : Lawful m) (x : Extended m c l l' r) where
   -- what stood stands
   link_stays : (p k : ℕ) → Link m c l p k → Link m c l' p k
   link_stays p k (inl z) = inl z
-  link_stays p k (inr (j, h, o, w, z)) = inr (j, omega (arith, x.count), o, w, subst (λ (b : Entry). BracketedBy m c b o w p k) (sym (x.old j h)) z)
+  link_stays p k (inr (j, h, o, w, z)) = inr (j, omega (arith, x.count), o, w, subst (λ (b : LogRecord). BracketedBy m c b o w p k) (sym (x.old j h)) z)
 
   waits_stays : (p k : ℕ) → CandidateAt m c l p k → CandidateAt m c l' p k
   waits_stays p k z = record { it = z.it; candidate = subst (λ (e : List Record). Candidate m c e z.it) (sym x.more) (candidate_stays (record_of (records l) r) z.candidate); at = z.at; cost_is = z.cost_is }
@@ -63,29 +63,29 @@ module _ {m : Meaning} {c : Content} {l l' : Log} {r : Entry} (laws : Lawful m) 
   pub new_in : l.count < l'.count
   new_in = omega (arith, x.count)
 
-  -- by whether an entry is the new one
-  by_entry : (P : Entry → Type 0) → P (numbered l' l.count) → ((i : ℕ) → i < l.count → P (numbered l i)) → (i : ℕ) → i < l'.count → P (numbered l' i)
-  by_entry P new old i h = ⊎_elim
+  -- by whether a record is the new one
+  by_record : (P : LogRecord → Type 0) → P (numbered l' l.count) → ((i : ℕ) → i < l.count → P (numbered l i)) → (i : ℕ) → i < l'.count → P (numbered l' i)
+  by_record P new old i h = ⊎_elim
       (λ (e : i ≡ l.count). subst (λ (j : ℕ). P (numbered l' j)) (sym e) new)
       (λ (n : i ≡ l.count → ⊥). let k : i < l.count = omega (arith, x.count) in subst P (sym (x.old i k)) (old i k))
       (cases_eq i l.count)
 
   module _ {s : Minima} (state : State m c l s) where
-    -- after the new entry is followed
+    -- after the new record is followed
     pub linked_stays : (waits : Waiting) → Lowered m (CandidateAt m c l') s.waiting.costs waits.costs (Followed m c s.links (numbered l' l.count)) → PlacesLeast m l' waits → Linked m c l' s.links waits
     linked_stays waits w places = record {
       held_links = record { long = state.linked.held_links.long; attained = links_stay s.links state.linked.held_links.attained };
       held_waiting = record { long = w.long ∙ state.linked.held_waiting.long; attained = w.attained; least = places };
-      followed = by_entry (λ (a : Entry). Bounds m (Followed m c s.links a) waits.costs) w.bounds (λ i h p k z.
+      followed = by_record (λ (a : LogRecord). Bounds m (Followed m c s.links a) waits.costs) w.bounds (λ i h p k z.
           let fits = follow_fits laws state.ready s.links state.linked.held_links.long state.linked.held_links.attained i h s.waiting.costs state.linked.held_waiting.long 64 p k (omega arith) z in
           let fits0 = fits.0 in
           laws.trans _ _ _ (attained_cost laws (candidate_cost_at laws x.ready) waits.costs w.attained p (omega (arith, w.long))) (attained_cost laws (candidate_cost_at laws state.ready) s.waiting.costs state.linked.held_waiting.attained p fits.0) fits.1 (w.lower p fits.0) (state.linked.followed i h p k z));
     }
 
-    -- the least from other places than that of the new entry
+    -- the least from other places than that of the new record
     pub places_stay : (p : ℕ) → p ≡ pair_of c r.from r.to → (t : ℕ) → t < 64 → t ≢ place_number c r.from → l'.index ≡ set l.index p (Some l.count) → PlaceLeast m l' s.waiting.costs t 64 (get_or s.waiting.least t 0)
     places_stay p at t ht far is =
-        let q-small = number_in c r.to state.ready.sound.few_places (subst (λ (e : Entry). On c e.to) x.new (x.ready.book.kept l.count new_in).to_on) in
+        let q-small = number_in c r.to state.ready.sound.few_places (subst (λ (e : LogRecord). On c e.to) x.new (x.ready.book.kept l.count new_in).to_on) in
         let old = state.linked.held_waiting.least.places t ht in
         let same : (q : ℕ) → q < 64 → get_or l'.index (t * 64 + q) None ≡ get_or l.index (t * 64 + q) None = λ q hq. ap (λ (xs : List (Option ℕ)). get_or xs (t * 64 + q) None) is ∙ get_or-set_other l.index p (t * 64 + q) (Some l.count) None (λ (e : t * 64 + q ≡ p). omega arith) in
         record {
@@ -94,7 +94,7 @@ module _ {m : Meaning} {c : Content} {l l' : Log} {r : Entry} (laws : Lawful m) 
         }
 
     module _ (links : List ℕ) (linked : Lowered m (Link m c l') s.links links (BracketedIn m c s.leads (numbered l' l.count))) where
-      -- by the new entry
+      -- by the new record
       around_new : (o w p k : ℕ) → BracketedBy m c (numbered l' l.count) o w p k → NoDearer m (get_or links p 0) k
       around_new o w p k z =
           let sound = x.ready.sound in
@@ -130,7 +130,7 @@ module _ {m : Meaning} {c : Content} {l l' : Log} {r : Entry} (laws : Lawful m) 
       -- all links of the new log are bounded
       links_all : Bounds m (Link m c l') links
       links_all p k (inl z) = as_before p k (inl z)
-      links_all p k (inr (j, h, o, w, z)) = by_entry (λ (b : Entry). BracketedBy m c b o w p k → NoDearer m (get_or links p 0) k) (around_new o w p k) (λ i hi y. as_before p k (inr (i, hi, o, w, y))) j h z
+      links_all p k (inr (j, h, o, w, z)) = by_record (λ (b : LogRecord). BracketedBy m c b o w p k → NoDearer m (get_or links p 0) k) (around_new o w p k) (λ i hi y. as_before p k (inr (i, hi, o, w, y))) j h z
 
       pub state_more : (waits : Waiting) → Linked m c l' links waits → State m c l' (record { links = links; waiting = waits; leads = s.leads })
       state_more waits ok = record {

@@ -13,8 +13,8 @@ use Rattle.board.specs.declared.moves.Arrival.{Arrival}
 use Rattle.board.specs.declared.moves.Effect.{Effect}
 use Rattle.board.specs.declared.moves.Effect.TheVariants.{Quiet}
 use Rattle.board.specs.declared.log.Log.{Log}
-use Rattle.board.specs.declared.log.Source.{Source}
-use Rattle.board.specs.declared.log.Source.TheVariants.{Step}
+use Rattle.board.specs.declared.log.Derivation.{Derivation as LogDerivation}
+use Rattle.board.specs.declared.log.Derivation.TheVariants.{Step}
 use Rattle.board.specs.declared.settling.Goal.{Goal}
 use Rattle.board.specs.Content.{Content}
 use Rattle.board.specs.Moves.{Place, mode, moment, On, effect_of, Transition}
@@ -53,7 +53,7 @@ pub record StepFront (m : Meaning) (c : Content) (l : Log) (g : Goal) (v : Move)
 
 pub step_of : {m : Meaning} {c : Content} {l : Log} {g : Goal} {y : Record} (v : Move) → Candidate m c (records l) y → y.from ≡ g.from → y.to ≡ g.to → y.cost ≡ g.cost → y.derivation ≡ by_step v → StepFront m c l g v
 step_of {m} {c} {l} {g} v (step a {v = w} {q} {k} i t) s e f d =
-    let r = logged_in l.entries l.count a i in
+    let r = logged_in l.records l.count a i in
     let is : w ≡ v = step_is w v d in
     record {
       front = r.0;
@@ -115,11 +115,11 @@ module _ {m : Meaning} {c : Content} {l : Log} (laws : Lawful m) (ready : Ready 
           let f = from_start place there i at in
           let goes : Transition m c v (numbered l i).to h.to h.cost Quiet = subst₂ (λ (p : Place) (e : Effect). Transition m c v p h.to h.cost e) (sym f.2) quiet (arrival_transition m c v place h arrives) in
           let is : step_record m (nth_record l i) v h.to h.cost ≡ record_of (records l) (made g (Step i v)) =
-          λ j. record { from = f.1 j; to = ends j; cost = costs j; derivation = by_step v; moves = (sym (settled_is l.entries l.count i f.0) j).moves ++ (v ∷ []) } in
+          λ j. record { from = f.1 j; to = ends j; cost = costs j; derivation = by_step v; moves = (sym (settled_is l.records l.count i f.0) j).moves ++ (v ∷ []) } in
           record {
             refers = f.0;
             makes = record {
-              candidate = subst (Candidate m c (records l)) is (step (nth_record l i) (in_logged l.entries l.count i f.0) goes);
+              candidate = subst (Candidate m c (records l)) is (step (nth_record l i) (in_logged l.records l.count i f.0) goes);
               starts = refl;
               ends = refl;
               costs = refl;
@@ -131,7 +131,7 @@ module _ {m : Meaning} {c : Content} {l : Log} (laws : Lawful m) (ready : Ready 
 -- what the winner of a part is worth
 module _ (m : Meaning) (c : Content) (l : Log) (g : Goal) where
   -- a winner of a part wins the whole, if it goes before all others
-  pub wins_more : (P Q : Derivation → Type 0) (s : Source) → Wins m c l g P s → Q (derivation_of s) → ((y : Record) → Makes m c l g y → Q y.derivation → P y.derivation ⊎ Lex (derivation_key (derivation_of s)) (derivation_key y.derivation)) → Wins m c l g Q s
+  pub wins_more : (P Q : Derivation → Type 0) (s : LogDerivation) → Wins m c l g P s → Q (derivation_of s) → ((y : Record) → Makes m c l g y → Q y.derivation → P y.derivation ⊎ Lex (derivation_key (derivation_of s)) (derivation_key y.derivation)) → Wins m c l g Q s
   wins_more P Q s w one split = record { refers = w.refers; makes = w.makes; one = one; first = λ y k q. ⊎_elim (λ p. w.first y k p) (λ h. h) (split y k q) }
 
   -- the rows below n have no step
@@ -148,10 +148,10 @@ module _ (m : Meaning) (c : Content) (l : Log) (g : Goal) where
   no_step n h old y k (v, d) = let r = step_row y k v d in old v.row (omega arith) y k (v, refl, d)
 
   -- a step by a later row
-  later_row : (n : ℕ) (s : Source) → StepsBy n (derivation_of s) → (y : Record) (v : Move) → y.derivation ≡ by_step v → n < v.row → Lex (derivation_key (derivation_of s)) (derivation_key y.derivation)
+  later_row : (n : ℕ) (s : LogDerivation) → StepsBy n (derivation_of s) → (y : Record) (v : Move) → y.derivation ≡ by_step v → n < v.row → Lex (derivation_key (derivation_of s)) (derivation_key y.derivation)
   later_row n s one y v d h = subst₂ (λ (x z : Derivation). Lex (derivation_key x) (derivation_key z)) (sym one.2) (sym d) (inr (refl, inl (let e = one.1 in omega arith)))
 
-  pub first_row : (n : ℕ) (s : Source) → NoStepBelow n → Wins m c l g (StepsBy n) s → Wins m c l g Steps s
+  pub first_row : (n : ℕ) (s : LogDerivation) → NoStepBelow n → Wins m c l g (StepsBy n) s → Wins m c l g Steps s
   first_row n s old w = wins_more (StepsBy n) Steps s w (w.one.0, w.one.2) (λ y k q. ⊎_elim
       (λ (h : q.0.row < n). absurd (old q.0.row h y k (q.0, refl, q.1)))
       (λ (h : n ≤ q.0.row). ⊎_elim
@@ -200,7 +200,7 @@ module _ {m : Meaning} {c : Content} {l : Log} (laws : Lawful m) (ready : Ready 
     pub alone_none : Finds m c l g (StepOf (bare row)) None → Finds m c l g (StepsBy row) None
     alone_none f y k (v, same, d) = let x = step_front laws ready g on v y k d in f y k (d ∙ ap by_step (alone_move same x.goes))
 
-    pub alone_wins : (s : Source) → Wins m c l g (StepOf (bare row)) s → Wins m c l g (StepsBy row) s
+    pub alone_wins : (s : LogDerivation) → Wins m c l g (StepOf (bare row)) s → Wins m c l g (StepsBy row) s
     alone_wins s w = wins_more m c l g (StepOf (bare row)) (StepsBy row) s w (bare row, refl, w.one) (λ y k q. let x = step_front laws ready g on q.0 y k q.2 in inl (q.2 ∙ ap by_step (alone_move q.1 x.goes)))
 
   -- with an event
@@ -252,7 +252,7 @@ module _ {m : Meaning} {c : Content} {l : Log} (laws : Lawful m) (ready : Ready 
         let f1 = f.1 in
         old f.0 (omega arith) y k (d ∙ ap by_step f.2)
 
-    pub along_wins : (n : ℕ) (s : Source) → n < length lines → NoStepAlong m c l g row lines n → Wins m c l g (StepOf (record { row = row; line = Some (get_or lines n 0) })) s → Wins m c l g (StepsBy row) s
+    pub along_wins : (n : ℕ) (s : LogDerivation) → n < length lines → NoStepAlong m c l g row lines n → Wins m c l g (StepOf (record { row = row; line = Some (get_or lines n 0) })) s → Wins m c l g (StepsBy row) s
     along_wins n s hn old w = wins_more m c l g (StepOf (along n)) (StepsBy row) s w (along n, refl, w.one) (λ y k q.
         let x = step_front laws ready g on q.0 y k q.2 in
         let f = along_one q.1 x.goes in

@@ -12,7 +12,7 @@ use Rattle.board.specs.Logged.{logged, records}
 use Rattle.board.specs.Logs.{Book, numbered, nth_record, pair_of}
 use Rattle.board.specs.Settling.{SettledLog}
 use Rattle.board.specs.Boards.{settled_content, settled_records}
-use Rattle.board.specs.Entries.{EntryIn, entry_record}
+use Rattle.board.specs.ByNumber.{NumberIn, record_by_number}
 use Rattle.board.specs.Computing.{joins?, record_between}
 use Rattle.board.proofs.Questions.Finding.{joins_parts}
 use Rattle.board.proofs.Basics.Numbers.{place_below, number_in}
@@ -23,30 +23,30 @@ use Rattle.board.proofs.Promised.{settling_computed}
 pub settled_of : {K : Type 0} {k : Ghosts K} → Lawful k.meaning → (s : Settled K k) → SettledLog k.meaning (settled_content s) (settled_records s)
 settled_of {k = k} laws s = subst (SettledLog k.meaning (settled_content s)) (sym s.settled) (settling_computed k.meaning (settled_content s) laws s.tables.sound).settled
 
--- the entries before n, of which the one numbered i alone is of the pair
-between_at : (c : Content) (l : Log) (s q i n : ℕ) → i < n → ((j : ℕ) → j < n → joins? c (nth_record l j) s q ≡ true → j ≡ i) → joins? c (nth_record l i) s q ≡ true → record_between c (logged l.entries n) s q ≡ Some (nth_record l i)
+-- the records before n, of which the one numbered i alone is of the pair
+between_at : (c : Content) (l : Log) (s q i n : ℕ) → i < n → ((j : ℕ) → j < n → joins? c (nth_record l j) s q ≡ true → j ≡ i) → joins? c (nth_record l i) s q ≡ true → record_between c (logged l.records n) s q ≡ Some (nth_record l i)
 unfolding logged record_between
 between_at c l s q i zero h only here = absurd (omega arith)
 between_at c l s q i (suc n) h only here = by (λ k. between_at c l s q i n k (λ j x. only j (omega arith)) here) (cases_eq i n) (joins? c (nth_record l n) s q) refl
   where
-    by : (i < n → record_between c (logged l.entries n) s q ≡ Some (nth_record l i)) → (i ≡ n) ⊎ (i ≡ n → ⊥) → (b : Bool) → joins? c (nth_record l n) s q ≡ b → cond (joins? c (nth_record l n) s q) (Some (nth_record l n)) (record_between c (logged l.entries n) s q) ≡ Some (nth_record l i)
+    by : (i < n → record_between c (logged l.records n) s q ≡ Some (nth_record l i)) → (i ≡ n) ⊎ (i ≡ n → ⊥) → (b : Bool) → joins? c (nth_record l n) s q ≡ b → cond (joins? c (nth_record l n) s q) (Some (nth_record l n)) (record_between c (logged l.records n) s q) ≡ Some (nth_record l i)
     by rest (inl e) true f = cond-true _ _ _ f ∙ ap (λ j. Some (nth_record l j)) (sym e)
     by rest (inl e) false f = absurd (both_ways _ f (ap (λ j. joins? c (nth_record l j) s q) (sym e) ∙ here))
     by rest (inr ne) true f = absurd (let z = only n (omega arith) f in omega (arith, ne (sym z)))
     by rest (inr ne) false f = cond-false _ _ _ f ∙ rest (omega arith)
 
-between_past : (c : Content) (l : Log) (s q n : ℕ) → ((j : ℕ) → j < n → joins? c (nth_record l j) s q ≡ true → ⊥) → record_between c (logged l.entries n) s q ≡ None
+between_past : (c : Content) (l : Log) (s q n : ℕ) → ((j : ℕ) → j < n → joins? c (nth_record l j) s q ≡ true → ⊥) → record_between c (logged l.records n) s q ≡ None
 unfolding logged record_between
 between_past c l s q zero none = refl
 between_past c l s q (suc n) none = by (between_past c l s q n (λ j x. none j (omega arith))) (joins? c (nth_record l n) s q) refl
   where
-    by : record_between c (logged l.entries n) s q ≡ None → (b : Bool) → joins? c (nth_record l n) s q ≡ b → cond (joins? c (nth_record l n) s q) (Some (nth_record l n)) (record_between c (logged l.entries n) s q) ≡ None
+    by : record_between c (logged l.records n) s q ≡ None → (b : Bool) → joins? c (nth_record l n) s q ≡ b → cond (joins? c (nth_record l n) s q) (Some (nth_record l n)) (record_between c (logged l.records n) s q) ≡ None
     by rest true f = absurd (none n (omega arith) f)
     by rest false f = cond-false _ _ _ f ∙ rest
 
--- the index leads to the entry of a pair
+-- the index leads to the record of a pair
 module _ {m : Meaning} (c : Content) (l : Log) (b : Book m c l) (s q : ℕ) where
-  -- an entry of the pair stands in the index
+  -- a record of the pair stands in the index
   joined_found : (j : ℕ) → j < l.count → joins? c (nth_record l j) s q ≡ true → get_or l.index (s * 64 + q) None ≡ Some j
   joined_found j h e =
       let z = joins_parts c (nth_record l j) s q e in
@@ -68,7 +68,7 @@ module _ {m : Meaning} (c : Content) (l : Log) (b : Book m c l) (s q : ℕ) wher
   index_none e = between_past c l s q l.count (λ j x f. none_some _ _ e (joined_found j x f))
 
   -- what was read of the index
-  pub at_index : c.modes * c.moments ≤ 64 → q < 64 → (r : Option ℕ) → r ≡ get_or l.index (s * 64 + q) None → (entry_record l r ≡ record_between c (records l) s q) × EntryIn l.count r
+  pub at_index : c.modes * c.moments ≤ 64 → q < 64 → (r : Option ℕ) → r ≡ get_or l.index (s * 64 + q) None → (record_by_number l r ≡ record_between c (records l) s q) × NumberIn l.count r
   at_index few h None e = (sym (index_none (sym e)), tt)
   at_index few h (Some i) e = let k = index_some i few h (sym e) in (sym k.1, k.0)
 

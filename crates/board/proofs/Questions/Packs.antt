@@ -1,4 +1,4 @@
--- The moves of an entry are small, and taking a packed move apart gives it back.
+-- The moves of a record are small, and taking a packed move apart gives it back.
 use Rattle.std.proofs.Common.{◌≡◌, ℕ, zero, suc, ◌+◌, ◌*◌, ◌/◌, ◌%◌, ◌<◌, ◌⊎◌, List, [], ◌∷◌, map, length, get_or, Some, None, Option, refl, ap, ◌∙◌, ap₂, inl, inr, arith}
 use Rattle.std.proofs.lemmas.Option.{slice_get_within}
 use Rattle.std.proofs.lemmas.Bool.{lt-ltb, eq-eqb, ne_eqb, cond-true, cond-false}
@@ -58,4 +58,4 @@ path_small {c = c} d (go {v} g p) zero h = (let r = slice_get_within c.rows v.ro
 path_small d (go g p) (suc k) h = path_small d p k (omega arith)
 
 pub settled_small : {m : Meaning} {c : Content} (l : Log) (i : ℕ) → Lawful m → Sound m c → Reached m c (records l) → i < l.count → (k : ℕ) → k < length (moves_at l i) → Small (move_of l i k)
-settled_small l i laws d s h = path_small d (spelled_path laws d s.1 (nth_record l i) (in_logged l.entries l.count i h)).path
+settled_small l i laws d s h = path_small d (spelled_path laws d s.1 (nth_record l i) (in_logged l.records l.count i h)).path

@@ -5,7 +5,7 @@ use Rattle.costs.specs.Meaning.{Meaning}
 use Rattle.board.specs.declared.row.Row.{Row}
 use Rattle.board.specs.declared.log.Log.{Log}
 use Rattle.board.specs.declared.reading.Reading.{Reading}
-use Rattle.board.specs.Entries.{ReadingIn, reading_of}
+use Rattle.board.specs.ByNumber.{ReadingIn, reading_of}
 use Rattle.board.specs.Content.{Content}
 use Rattle.board.specs.Settling.{Record}
 use Rattle.board.specs.Computing.{ReadingFound, reading_at, limit_by, better_by, better, best_moments, mode_left, best_rows, recorded_reading}
@@ -38,7 +38,7 @@ rows_all m c log i rs x same h k e =
     let n : i ≡ length c.rows = omega (arith, ap length same) in
     e ∙ ap (best_rows m c log) n
 
--- the better of two readings, told by their entries
+-- the better of two readings, told by their records
 pub reading_better : (m : Meaning) (l : Log) (a b : Option Reading) → reading_of l (better_by m (λ r. r.cost) a b) ≡ better m (reading_of l a) (reading_of l b)
 reading_better m l a None = refl
 reading_better m l None (Some x) = by (m.no_dearer m.worst x.cost)

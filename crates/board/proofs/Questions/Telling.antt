@@ -5,7 +5,7 @@ use Rattle.std.proofs.lemmas.List.{append_assoc, map-append, length-map, drop_mo
 use Rattle.costs.specs.declared.kind.Kind.{Ghosts}
 use Rattle.costs.specs.Meaning.{Lawful}
 use Rattle.board.specs.declared.settled.Settled.{Settled}
-use Rattle.board.specs.Entries.{ReadingIn, reading_of}
+use Rattle.board.specs.ByNumber.{ReadingIn, reading_of}
 use Rattle.board.specs.Spelled.{moves_at, move_of}
 use Rattle.board.proofs.Questions.Holding.{settled_of}
 use Rattle.board.proofs.Questions.Packs.{settled_small}
@@ -19,49 +19,49 @@ use Rattle.board.specs.Boards.{settled_content, settled_records}
 use Rattle.board.specs.Questions.{fits, path_told, path_written, path_answer, path_after}
 
 -- what is told of a reading in a log
-module _ (l : Log) (r : Reading) (o : Option ReadingFound) (is : reading_of l (Some r) ≡ o) (k : ℕ) (measured : k ≡ min (length (nth_record l r.entry).moves) 65536) where
+module _ (l : Log) (r : Reading) (o : Option ReadingFound) (is : reading_of l (Some r) ≡ o) (k : ℕ) (measured : k ≡ min (length (nth_record l r.before).moves) 65536) where
   the_found : ReadingFound
-  the_found = record { row = r.row; cost = r.cost; moves = (nth_record l r.entry).moves ++ (bare r.row ∷ []) }
+  the_found = record { row = r.row; cost = r.cost; moves = (nth_record l r.before).moves ++ (bare r.row ∷ []) }
 
-  one_more : length ((nth_record l r.entry).moves ++ (bare r.row ∷ [])) ≡ length (nth_record l r.entry).moves + 1
-  one_more = length-append (nth_record l r.entry).moves (bare r.row ∷ [])
+  one_more : length ((nth_record l r.before).moves ++ (bare r.row ∷ [])) ≡ length (nth_record l r.before).moves + 1
+  one_more = length-append (nth_record l r.before).moves (bare r.row ∷ [])
 
   -- it fits
   fits_test : (buffer : List ℕ) → k < length buffer → k < 65535 → fits the_found buffer ≡ true
   unfolding the_found
   fits_test buffer h g =
       let n = one_more in
-      let all = length ((nth_record l r.entry).moves ++ (bare r.row ∷ [])) in
+      let all = length ((nth_record l r.before).moves ++ (bare r.row ∷ [])) in
       let in_buffer : all ≤ length buffer = omega arith in
       let in_all : all ≤ 65535 = omega arith in
       and_from (leb all (length buffer)) (leb all 65535) (le-leb _ _ in_buffer) (le-leb _ _ in_all)
 
-  written_last : (buffer out : List ℕ) (x : ℕ) → length (nth_record l r.entry).moves < length buffer → out ≡ map packed (nth_record l r.entry).moves ++ drop (length (nth_record l r.entry).moves) buffer → x ≡ packed (bare r.row) → set out (length (nth_record l r.entry).moves) x ≡ map packed ((nth_record l r.entry).moves ++ (bare r.row ∷ [])) ++ drop (length ((nth_record l r.entry).moves ++ (bare r.row ∷ []))) buffer
+  written_last : (buffer out : List ℕ) (x : ℕ) → length (nth_record l r.before).moves < length buffer → out ≡ map packed (nth_record l r.before).moves ++ drop (length (nth_record l r.before).moves) buffer → x ≡ packed (bare r.row) → set out (length (nth_record l r.before).moves) x ≡ map packed ((nth_record l r.before).moves ++ (bare r.row ∷ [])) ++ drop (length ((nth_record l r.before).moves ++ (bare r.row ∷ []))) buffer
   written_last buffer out x h e f =
-      let ms = (nth_record l r.entry).moves in
+      let ms = (nth_record l r.before).moves in
       let n = length ms in
       ap₂ (λ (y : List ℕ) (z : ℕ). set y n z) (e ∙ ap (λ (d : List ℕ). map packed ms ++ d) (drop_more buffer n 0 h)) f
       ∙ set_at (map packed ms) (get_or buffer n 0) (drop (n + 1) buffer) (packed (bare r.row)) n (length-map ms packed)
       ∙ sym (append_assoc (map packed ms) (packed (bare r.row) ∷ []) (drop (n + 1) buffer))
       ∙ ap₂ (λ (y : List ℕ) (j : ℕ). y ++ drop j buffer) (sym (map-append packed ms (bare r.row ∷ []))) (sym one_more)
 
-  path_short : (buffer out : List ℕ) (n x : ℕ) → k < length buffer → k < 65535 → n ≡ length (nth_record l r.entry).moves → out ≡ map packed (nth_record l r.entry).moves ++ drop (length (nth_record l r.entry).moves) buffer → x ≡ packed (bare r.row) → (Ok (n + 1) ≡ path_told o buffer) × (set out n x ≡ path_written o buffer)
+  path_short : (buffer out : List ℕ) (n x : ℕ) → k < length buffer → k < 65535 → n ≡ length (nth_record l r.before).moves → out ≡ map packed (nth_record l r.before).moves ++ drop (length (nth_record l r.before).moves) buffer → x ≡ packed (bare r.row) → (Ok (n + 1) ≡ path_told o buffer) × (set out n x ≡ path_written o buffer)
   unfolding the_found
   path_short buffer out n x h g e f z =
       let t = fits_test buffer h g in
       let c = one_more in
-      let count : n + 1 ≡ length ((nth_record l r.entry).moves ++ (bare r.row ∷ [])) = omega arith in (
+      let count : n + 1 ≡ length ((nth_record l r.before).moves ++ (bare r.row ∷ [])) = omega arith in (
         ap Ok count ∙ sym (cond-true _ _ _ t) ∙ ap (λ y. path_told y buffer) is,
         ap (λ j. set out j x) e ∙ written_last buffer out x (omega arith) f z ∙ sym (cond-true _ _ _ t) ∙ ap (λ y. path_written y buffer) is,
       )
 
 -- what a settled board tells of the reading that it recorded
 module _ {K : Type 0} {k : Ghosts K} (laws : Lawful k.meaning) (s : Settled K k) {w : Option Reading} (r : Reading) (w-is : w ≡ Some r) (within : ReadingIn s.log.count (length s.tables.rows.items) w) where
-  in_log : r.entry < s.log.count
+  in_log : r.before < s.log.count
   in_log = (subst (ReadingIn s.log.count (length s.tables.rows.items)) w-is within).0
 
-  pub told_small : (i : ℕ) → i < length (moves_at s.log r.entry) → Small (move_of s.log r.entry i)
-  told_small = let d = settled_of laws s in settled_small s.log r.entry laws s.tables.sound (d.rounds, d.reached) in_log
+  pub told_small : (i : ℕ) → i < length (moves_at s.log r.before) → Small (move_of s.log r.before i)
+  told_small = let d = settled_of laws s in settled_small s.log r.before laws s.tables.sound (d.rounds, d.reached) in_log
 
-  pub told_path : reading_of s.log w ≡ recorded_reading k.meaning (settled_content s) (settled_records s) → (buffer out : List ℕ) (n x : ℕ) → get_or s.log.lengths r.entry 0 < length buffer → get_or s.log.lengths r.entry 0 < 65535 → n ≡ length (moves_at s.log r.entry) → out ≡ map packed (moves_at s.log r.entry) ++ drop (length (moves_at s.log r.entry)) buffer → x ≡ packed (bare r.row) → (Ok (n + 1) ≡ path_answer k.meaning (settled_content s) (settled_records s) buffer) × (set out n x ≡ path_after k.meaning (settled_content s) (settled_records s) buffer)
-  told_path which = path_short s.log r _ (ap (reading_of s.log) (sym w-is) ∙ which) _ (s.book.spells.lengths_are r.entry in_log)
+  pub told_path : reading_of s.log w ≡ recorded_reading k.meaning (settled_content s) (settled_records s) → (buffer out : List ℕ) (n x : ℕ) → get_or s.log.lengths r.before 0 < length buffer → get_or s.log.lengths r.before 0 < 65535 → n ≡ length (moves_at s.log r.before) → out ≡ map packed (moves_at s.log r.before) ++ drop (length (moves_at s.log r.before)) buffer → x ≡ packed (bare r.row) → (Ok (n + 1) ≡ path_answer k.meaning (settled_content s) (settled_records s) buffer) × (set out n x ≡ path_after k.meaning (settled_content s) (settled_records s) buffer)
+  told_path which = path_short s.log r _ (ap (reading_of s.log) (sym w-is) ∙ which) _ (s.book.spells.lengths_are r.before in_log)

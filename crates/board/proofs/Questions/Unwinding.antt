@@ -3,7 +3,7 @@ use Rattle.std.proofs.Common.{◌≡◌, ℕ, ◌+◌, ◌-◌, ◌<◌, ◌≤�
 use Rattle.std.proofs.lemmas.List.{append-nil, append_assoc, length-take-le, take_more, drop_more, drop_all, set_at, same_from_push, take-append-drop}
 use Rattle.board.specs.declared.cursor.Pending.{Pending}
 use Rattle.board.specs.declared.log.Log.{Log}
-use Rattle.board.specs.declared.log.Source.TheVariants.{Step, Call}
+use Rattle.board.specs.declared.log.Derivation.TheVariants.{Step, Call}
 use Rattle.board.specs.declared.moves.Move.{Move}
 use Rattle.board.specs.Settling.{Record, bare}
 use Rattle.board.specs.Logged.{spelled, logged}
@@ -15,34 +15,34 @@ use Rattle.std.proofs.lemmas.Grind.{flat_map-append}
 use Rattle.board.specs.Cursors.{opened}
 use Rattle.board.proofs.Rounds.Logging.{settled_is}
 
--- an entry's length is kept, its front and inside are earlier, and its moves are theirs with its own
+-- a record's length is kept, its front and inside are earlier, and its moves are theirs with its own
 module _ {l : Log} (s : Spells l) (i : ℕ) (within : i < l.count) where
   pub counted : length (moves_at l i) < 65536 → get_or l.lengths i 0 ≡ length (moves_at l i)
   counted h = omega (arith, s.lengths_are i within)
 
-  pub step_in : (b : ℕ) (v : Move) → (numbered l i).source ≡ Step b v → b < i
+  pub step_in : (b : ℕ) (v : Move) → (numbered l i).derivation ≡ Step b v → b < i
   step_in b v e = subst (Refers i) e (s.earlier i within)
 
-  pub moves_step : (b : ℕ) (v : Move) → (numbered l i).source ≡ Step b v → moves_at l i ≡ moves_at l b ++ (v ∷ [])
-  moves_step b v e = ap (spelled (logged l.entries i)) e ∙ ap (λ (x : Record). x.moves ++ (v ∷ [])) (settled_is l.entries i b (step_in b v e))
+  pub moves_step : (b : ℕ) (v : Move) → (numbered l i).derivation ≡ Step b v → moves_at l i ≡ moves_at l b ++ (v ∷ [])
+  moves_step b v e = ap (spelled (logged l.records i)) e ∙ ap (λ (x : Record). x.moves ++ (v ∷ [])) (settled_is l.records i b (step_in b v e))
 
-  pub call_in : (b j o w t : ℕ) → (numbered l i).source ≡ Call b j o w t → (b < i) × (j < i)
+  pub call_in : (b j o w t : ℕ) → (numbered l i).derivation ≡ Call b j o w t → (b < i) × (j < i)
   call_in b j o w t e = subst (Refers i) e (s.earlier i within)
 
-  pub moves_call : (b j o w t : ℕ) → (numbered l i).source ≡ Call b j o w t → moves_at l i ≡ moves_at l b ++ (bare o ∷ (moves_at l j ++ (bare w ∷ [])))
+  pub moves_call : (b j o w t : ℕ) → (numbered l i).derivation ≡ Call b j o w t → moves_at l i ≡ moves_at l b ++ (bare o ∷ (moves_at l j ++ (bare w ∷ [])))
   moves_call b j o w t e =
       let h = call_in b j o w t e in
-      ap (spelled (logged l.entries i)) e ∙ ap₂ (λ (x y : Record). x.moves ++ (bare o ∷ (y.moves ++ (bare w ∷ [])))) (settled_is l.entries i b h.0) (settled_is l.entries i j h.1)
+      ap (spelled (logged l.records i)) e ∙ ap₂ (λ (x y : Record). x.moves ++ (bare o ∷ (y.moves ++ (bare w ∷ [])))) (settled_is l.records i b h.0) (settled_is l.records i j h.1)
 
 opened_push : (l : Log) (ps : List Pending) (p : Pending) → flat_map (opened l) (ps ++ (p ∷ [])) ≡ flat_map (opened l) ps ++ opened l p
 opened_push l ps p = flat_map-append (opened l) ps (p ∷ []) ∙ ap (λ (xs : List Move). flat_map (opened l) ps ++ xs) (append-nil (opened l p))
 
 module _ {l : Log} (s : Spells l) (i : ℕ) (within : i < l.count) where
   module _ (ps : List Pending) where
-    pub step_last : (b : ℕ) (v : Move) → (numbered l i).source ≡ Step b v → flat_map (opened l) ps ++ moves_at l i ≡ (flat_map (opened l) ps ++ moves_at l b) ++ (v ∷ [])
+    pub step_last : (b : ℕ) (v : Move) → (numbered l i).derivation ≡ Step b v → flat_map (opened l) ps ++ moves_at l i ≡ (flat_map (opened l) ps ++ moves_at l b) ++ (v ∷ [])
     step_last b v e = ap (λ (ys : List Move). flat_map (opened l) ps ++ ys) (moves_step s i within b v e) ∙ sym (append_assoc (flat_map (opened l) ps) (moves_at l b) (v ∷ []))
 
-    pub call_last : (qs : List Pending) (b j o w t : ℕ) → (numbered l i).source ≡ Call b j o w t → qs ≡ ps ++ (record { front = b; row = o } ∷ []) → flat_map (opened l) ps ++ moves_at l i ≡ (flat_map (opened l) qs ++ moves_at l j) ++ (bare w ∷ [])
+    pub call_last : (qs : List Pending) (b j o w t : ℕ) → (numbered l i).derivation ≡ Call b j o w t → qs ≡ ps ++ (record { front = b; row = o } ∷ []) → flat_map (opened l) ps ++ moves_at l i ≡ (flat_map (opened l) qs ++ moves_at l j) ++ (bare w ∷ [])
     call_last qs b j o w t e h = rw (moves_call s i within b j o w t e, h, opened_push l ps (record { front = b; row = o })) (simp append_assoc)
 
 -- the last of the first k moves, and those before it

@@ -5,7 +5,7 @@ use Rattle.costs.specs.Meaning.{Meaning}
 use Rattle.board.specs.Content.{Content}
 use Rattle.board.specs.Settling.{Record, Candidate, step, call}
 use Rattle.board.proofs.Basics.Membership.{some_eq, none_some}
-use Rattle.board.specs.declared.log.Entry.{Entry}
+use Rattle.board.specs.declared.log.Record.{Record as LogRecord}
 use Rattle.board.specs.declared.log.Log.{Log}
 use Rattle.board.specs.Logged.{spelled, record_of, logged, blank, records}
 use Rattle.board.specs.Logs.{numbered, filled, Kept, Book, Ready, nth_record, pushed, Refers, pair_of}
@@ -37,7 +37,7 @@ candidate_stays z (step a i g) = step a (inr i) g
 candidate_stays z (call a b i g j h) = call a b (inr i) g (inr j) h
 
 -- a fresh record pushed
-module _ {m : Meaning} {c : Content} {l : Log} (ready : Ready m c l) {p : ℕ} {r : Entry} (at : p ≡ pair_of c r.from r.to) (unsettled : get_or l.index (pair_of c r.from r.to) None ≡ None) (kept : Kept m c r) (refers : Refers l.count r.source) {n : ℕ} (n-is : n ≡ min (length (spelled (records l) r.source)) 65536) where
+module _ {m : Meaning} {c : Content} {l : Log} (ready : Ready m c l) {p : ℕ} {r : LogRecord} (at : p ≡ pair_of c r.from r.to) (unsettled : get_or l.index (pair_of c r.from r.to) None ≡ None) (kept : Kept m c r) (refers : Refers l.count r.derivation) {n : ℕ} (n-is : n ≡ min (length (spelled (records l) r.derivation)) 65536) where
   fresh : get_or l.index p None ≡ None
   fresh = ap (λ (q : ℕ). get_or l.index q None) at ∙ unsettled
 
@@ -47,35 +47,35 @@ module _ {m : Meaning} {c : Content} {l : Log} (ready : Ready m c l) {p : ℕ} {
   pub room_here : l.count < 4096
   room_here = let h = filled_less l.index p pair_here fresh in omega (arith, ready.book.full, ready.book.index_long)
 
-  count_here : l.count < length l.entries
+  count_here : l.count < length l.records
   count_here = let h = room_here in omega (arith, ready.book.long)
 
   pub pushed_records : records (pushed l p r n) ≡ record_of (records l) r ∷ records l
-  pushed_records = ap (logged (set l.entries l.count r)) (add-one l.count) ∙ logged_push l.entries l.count r count_here
+  pushed_records = ap (logged (set l.records l.count r)) (add-one l.count) ∙ logged_push l.records l.count r count_here
 
   pub numbered_new : numbered (pushed l p r n) l.count ≡ r
-  numbered_new = get_or-set_same l.entries l.count r blank count_here
+  numbered_new = get_or-set_same l.records l.count r blank count_here
 
   pub numbered_old : (i : ℕ) → i < l.count → numbered (pushed l p r n) i ≡ numbered l i
-  numbered_old i h = let ne : i ≢ l.count = omega arith in get_or-set_other l.entries l.count i r blank ne
+  numbered_old i h = let ne : i ≢ l.count = omega arith in get_or-set_other l.records l.count i r blank ne
 
   pub place_new : nth_record (pushed l p r n) l.count ≡ record_of (records l) r
-  place_new = ap₂ (λ (e : List Record) (x : Entry). record_of e x) (logged_set l.entries l.count l.count r (omega arith)) numbered_new
+  place_new = ap₂ (λ (e : List Record) (x : LogRecord). record_of e x) (logged_set l.records l.count l.count r (omega arith)) numbered_new
 
   lengths_here : l.count < length l.lengths
   lengths_here = let h = room_here in omega (arith, ready.book.lengths_long)
 
   pub place_old : (i : ℕ) → i < l.count → nth_record (pushed l p r n) i ≡ nth_record l i
-  place_old i h = ap₂ (λ (e : List Record) (x : Entry). record_of e x) (logged_set l.entries i l.count r (omega arith)) (numbered_old i h)
+  place_old i h = ap₂ (λ (e : List Record) (x : LogRecord). record_of e x) (logged_set l.records i l.count r (omega arith)) (numbered_old i h)
 
   -- by whether a number is the new one
-  by_number : (P : ℕ → Entry → Type 0) → P l.count r → ((i : ℕ) → i < l.count → P i (numbered l i)) → (i : ℕ) → i < l.count + 1 → P i (numbered (pushed l p r n) i)
+  by_number : (P : ℕ → LogRecord → Type 0) → P l.count r → ((i : ℕ) → i < l.count → P i (numbered l i)) → (i : ℕ) → i < l.count + 1 → P i (numbered (pushed l p r n) i)
   by_number P new old i h = ⊎_elim
       (λ (e : i ≡ l.count). subst₂ P (sym e) (sym (ap (numbered (pushed l p r n)) e ∙ numbered_new)) new)
       (λ (ne : i ≡ l.count → ⊥). let k : i < l.count = omega arith in subst (P i) (sym (numbered_old i k)) (old i k))
       (cases_eq i l.count)
 
-  pair_at : Entry → ℕ
+  pair_at : LogRecord → ℕ
   pair_at x = pair_of c x.from x.to
 
   pub pushed_ready : Ready m c (pushed l p r n)
@@ -83,7 +83,7 @@ module _ {m : Meaning} {c : Content} {l : Log} (ready : Ready m c l) {p : ℕ} {
   pushed_ready = record {
     sound = ready.sound;
     book = record {
-      long = length-set l.entries l.count r ∙ ready.book.long;
+      long = length-set l.records l.count r ∙ ready.book.long;
       index_long = length-set l.index p (Some l.count) ∙ ready.book.index_long;
       kept = by_number (λ i x. Kept m c x) kept ready.book.kept;
       found = by_number (λ i x. get_or (set l.index p (Some l.count)) (pair_at x) None ≡ Some i)
@@ -97,7 +97,7 @@ module _ {m : Meaning} {c : Content} {l : Log} (ready : Ready m c l) {p : ℕ} {
       lengths_long = length-set l.lengths l.count n ∙ ready.book.lengths_long;
       spells = record {
         room = let h = room_here in omega arith;
-        earlier = by_number (λ i x. Refers i x.source) refers ready.book.spells.earlier;
+        earlier = by_number (λ i x. Refers i x.derivation) refers ready.book.spells.earlier;
         lengths_are = λ i h. ⊎_elim
             (λ (e : i ≡ l.count). subst (λ (j : ℕ). get_or (set l.lengths l.count n) j 0 ≡ min (length (nth_record (pushed l p r n) j).moves) 65536) (sym e) (get_or-set_same l.lengths l.count n 0 lengths_here ∙ (n-is ∙ ap (λ (x : Record). min (length x.moves) 65536) (sym place_new))))
             (λ (ne : i ≡ l.count → ⊥). let k : i < l.count = omega arith in get_or-set_other l.lengths l.count i n 0 ne ∙ (ready.book.spells.lengths_are i k ∙ ap (λ (x : Record). min (length x.moves) 65536) (sym (place_old i k))))

@@ -27,8 +27,8 @@ impl<K: Kind> Settled<K> {
         if from >= places || to >= places {
             return Err(Refusal::PlaceOut);
         }
-        let i = self.entry_of(from, to).ok_or(Refusal::Unsettled)?;
-        Ok(self.log.entries[i].cost)
+        let i = self.record_between(from, to).ok_or(Refusal::Unsettled)?;
+        Ok(self.log.records[i].cost)
     }
 
     // The recorded reading's cost and number of moves, 65,536 where it has more.
@@ -37,7 +37,7 @@ impl<K: Kind> Settled<K> {
         ensures means { CostMeans K.meaning (settled_content self.now) (settled_records self.now) result }
     {
         let r = self.recorded().ok_or(Refusal::NoReading)?;
-        Ok((r.cost, (self.log.lengths[r.entry] + 1).min(MANY_MOVES)))
+        Ok((r.cost, (self.log.lengths[r.before] + 1).min(MANY_MOVES)))
     }
 
     // Writes the recorded reading's packed moves to the front of the buffer, and answers how many.
@@ -47,11 +47,11 @@ impl<K: Kind> Settled<K> {
         ensures means { PathMeans K.meaning (settled_content self.now) (settled_records self.now) buffer.old result buffer.new }
     {
         let r = self.recorded().ok_or(Refusal::NoReading)?;
-        let moves = self.log.lengths[r.entry] as usize;
+        let moves = self.log.lengths[r.before] as usize;
         if moves >= buffer.len() || moves + 1 >= MANY_MOVES as usize {
             return Err(Refusal::TooLong);
         }
-        let n = write_moves(&self.log, r.entry, buffer);
+        let n = write_moves(&self.log, r.before, buffer);
         buffer[n] = Move {
             row: r.row,
             line: None,

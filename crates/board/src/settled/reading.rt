@@ -2,7 +2,7 @@
 ghost use Rattle.std.specs.Prelude.{◌≡◌, length};
 ghost use Rattle.board.specs.Boards.{settled_content, settled_records};
 ghost use Rattle.board.specs.Computing.{record_between, reading_at, recorded_reading};
-ghost use Rattle.board.specs.Entries.{EntryIn, ReadingIn, entry_record, reading_of};
+ghost use Rattle.board.specs.ByNumber.{NumberIn, ReadingIn, record_by_number, reading_of};
 
 use crate::bounds::PLACES;
 use crate::moves::{Move, Place};
@@ -11,10 +11,10 @@ use crate::settled::Settled;
 use costs::Kind;
 
 impl<K: Kind> Settled<K> {
-    // The number of the entry from the place numbered `from` to the place numbered `to`, if the pair is settled.
-    pub(crate) fn entry_of(&self, from: usize, to: usize) -> Option<usize>
-        ensures which { entry_record self.now.log result ≡ record_between (settled_content self.now) (settled_records self.now) from to }
-        ensures within { EntryIn self.now.log.count result }
+    // The number of the record from the place numbered `from` to the place numbered `to`, if the pair is settled.
+    pub(crate) fn record_between(&self, from: usize, to: usize) -> Option<usize>
+        ensures which { record_by_number self.now.log result ≡ record_between (settled_content self.now) (settled_records self.now) from to }
+        ensures within { NumberIn self.now.log.count result }
     {
         let places = self.tables.modes as usize * self.tables.moments as usize;
         if from >= places || to >= places {
@@ -29,12 +29,12 @@ impl<K: Kind> Settled<K> {
         ensures within { ReadingIn self.now.log.count (length self.now.tables.rows.items) result }
     {
         let h = self.tables.arrival(Move { row, line: None }, place)?;
-        let entry = self.entry_of(0, self.tables.place_number(place))?;
+        let before = self.record_between(0, self.tables.place_number(place))?;
         if !h.effect.is_end() {
             return None;
         }
-        let cost = K::join(self.log.entries[entry].cost, h.cost);
-        Some(Reading { row, entry, cost })
+        let cost = K::join(self.log.records[before].cost, h.cost);
+        Some(Reading { row, before, cost })
     }
 
     // The recorded reading, if there is one.

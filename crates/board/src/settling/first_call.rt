@@ -11,14 +11,14 @@ ghost use Rattle.board.specs.Minimizing.{LinksOf};
 ghost use Rattle.board.specs.Winning.{GoalOn, FindsOf, CallAt, CallsBy, CallsOpened, Calls, TightOf, BracketRows, Serve, ServeIn};
 
 use crate::bounds::ROWS;
-use crate::log::Source;
+use crate::log::Derivation;
 use crate::row::{Row, RowKind};
 use crate::settling::{Goal, Known};
 use costs::Kind;
 
 impl<K: Kind> Known<'_, K> {
     // The call by the open row a and the close row b, of these numbers, that opens at the moment, if it makes the goal.
-    fn call_at(&self, goal: Goal, o: u8, a: Row, w: u8, b: Row, moment: u8) -> Option<Source>
+    fn call_at(&self, goal: Goal, o: u8, a: Row, w: u8, b: Row, moment: u8) -> Option<Derivation>
         requires on { GoalOn (held self.now.tables.now) goal }
         requires rows { BracketRows (held self.now.tables.now) goal o w a b }
         requires moment { moment < (held self.now.tables.now).moments }
@@ -32,17 +32,17 @@ impl<K: Kind> Known<'_, K> {
             return None;
         };
         let cost = K::join(
-            K::join(self.log.entries[i].cost, a.cost),
-            self.log.entries[j].cost,
+            K::join(self.log.records[i].cost, a.cost),
+            self.log.records[j].cost,
         );
         if K::join(cost, b.cost) != goal.cost {
             return None;
         }
-        Some(Source::Call(i as u16, j as u16, o, w, moment))
+        Some(Derivation::Call(i as u16, j as u16, o, w, moment))
     }
 
     // The earliest call by the two rows that makes the goal.
-    fn call_by(&self, goal: Goal, o: u8, a: Row, w: u8, b: Row, tight: &[u8]) -> Option<Source>
+    fn call_by(&self, goal: Goal, o: u8, a: Row, w: u8, b: Row, tight: &[u8]) -> Option<Derivation>
         requires on { GoalOn (held self.now.tables.now) goal }
         requires rows { BracketRows (held self.now.tables.now) goal o w a b }
         requires tight { TightOf K.meaning self.now goal tight.now }
@@ -59,7 +59,7 @@ impl<K: Kind> Known<'_, K> {
         None
     }
 
-    // Whether a call that goes on from the entry i by the open row a at the moment, and ends by one of these close rows, costs no
+    // Whether a call that goes on from the record i by the open row a at the moment, and ends by one of these close rows, costs no
     // more than the goal.
     fn reaches_from(&self, goal: Goal, i: usize, o: u8, a: Row, moment: u8, closers: &[u8]) -> bool
         requires on { GoalOn (held self.now.tables.now) goal }
@@ -71,12 +71,12 @@ impl<K: Kind> Known<'_, K> {
         requires closers { ServeIn K.meaning (held self.now.tables.now) a.label (mode goal.to) closers.now }
         ensures { result ≡ false → (w : ℕ) → FindsOf K.meaning self.now goal (CallAt o w moment) ANone }
     {
-        let front = K::join(self.log.entries[i].cost, a.cost);
+        let front = K::join(self.log.records[i].cost, a.cost);
         for n in 0..closers.len() {
             if let Some(b) = self.tables.row(closers[n]) {
                 let inside = self.tables.pair((a.to, moment), (b.from, goal.to.1));
                 if let Some(j) = self.log.at(inside) {
-                    let cost = K::join(K::join(front, self.log.entries[j].cost), b.cost);
+                    let cost = K::join(K::join(front, self.log.records[j].cost), b.cost);
                     if K::no_dearer(cost, goal.cost) {
                         return true;
                     }
@@ -110,7 +110,14 @@ impl<K: Kind> Known<'_, K> {
     }
 
     // The first call that the open row a opens and that makes the goal.
-    fn call_opened(&self, goal: Goal, o: u8, a: Row, closers: &[u8], tight: &[u8]) -> Option<Source>
+    fn call_opened(
+        &self,
+        goal: Goal,
+        o: u8,
+        a: Row,
+        closers: &[u8],
+        tight: &[u8],
+    ) -> Option<Derivation>
         requires on { GoalOn (held self.now.tables.now) goal }
         requires cost { Cost K.meaning goal.cost }
         requires row { move_row (held self.now.tables.now) o ≡ ASome a }
@@ -138,7 +145,7 @@ impl<K: Kind> Known<'_, K> {
     }
 
     // The first call of all that makes the goal.
-    pub(crate) fn first_call(&self, goal: Goal, leads: &[bool], links: &[u32]) -> Option<Source>
+    pub(crate) fn first_call(&self, goal: Goal, leads: &[bool], links: &[u32]) -> Option<Derivation>
         requires on { GoalOn (held self.now.tables.now) goal }
         requires cost { Cost K.meaning goal.cost }
         requires leads { length leads.now ≡ ROWS }

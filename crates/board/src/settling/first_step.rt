@@ -8,7 +8,7 @@ ghost use Rattle.board.specs.Moves.{Place as APlace, moment, On, Transition, mov
 ghost use Rattle.board.specs.Computing.{same_place};
 ghost use Rattle.board.specs.Winning.{GoalOn, FindsOf, StepOf, StepsBy, Steps, Gathered, LineTo};
 
-use crate::log::Source;
+use crate::log::Derivation;
 use crate::moves::{Effect, Move, Place};
 use crate::row::{Row, RowKind};
 use crate::settling::{Goal, Known};
@@ -23,7 +23,7 @@ fn same_place(p: Place, q: Place) -> bool
 
 impl<K: Kind> Known<'_, K> {
     // The step by the move from the place, from where alone it can lead to where the goal ends.
-    fn step_from(&self, goal: Goal, v: Move, place: Place) -> Option<Source>
+    fn step_from(&self, goal: Goal, v: Move, place: Place) -> Option<Derivation>
         requires on { GoalOn (held self.now.tables.now) goal }
         requires place { On (held self.now.tables.now) place }
         requires starts { (p : APlace) (k : ℕ) → Transition K.meaning (held self.now.tables.now) v p goal.to k Quiet → p ≡ place }
@@ -41,14 +41,14 @@ impl<K: Kind> Known<'_, K> {
         if !same_place(h.to, goal.to) {
             return None;
         }
-        if K::join(self.log.entries[i].cost, h.cost) != goal.cost {
+        if K::join(self.log.records[i].cost, h.cost) != goal.cost {
             return None;
         }
-        Some(Source::Step(i as u16, v))
+        Some(Derivation::Step(i as u16, v))
     }
 
     // The first step by the row r, which is plain, has this number and goes with a line, along one of these lines.
-    fn step_along(&self, goal: Goal, row: u8, r: Row, lines: &[u8]) -> Option<Source>
+    fn step_along(&self, goal: Goal, row: u8, r: Row, lines: &[u8]) -> Option<Derivation>
         requires on { GoalOn (held self.now.tables.now) goal }
         requires row { move_row (held self.now.tables.now) row ≡ ASome r }
         requires timed { r.label ≡ 0 → ⊥ }
@@ -73,7 +73,7 @@ impl<K: Kind> Known<'_, K> {
     }
 
     // The first step by the row.
-    fn step_by(&self, goal: Goal, row: u8, lines: &[u8]) -> Option<Source>
+    fn step_by(&self, goal: Goal, row: u8, lines: &[u8]) -> Option<Derivation>
         requires on { GoalOn (held self.now.tables.now) goal }
         requires lines { Gathered (LineTo (held self.now.tables.now) (moment goal.to)) (length (held self.now.tables.now).lines) lines.now }
         ensures { FindsOf K.meaning self.now goal (StepsBy row) result }
@@ -95,7 +95,7 @@ impl<K: Kind> Known<'_, K> {
     }
 
     // The first step of all.
-    pub(crate) fn first_step(&self, goal: Goal) -> Option<Source>
+    pub(crate) fn first_step(&self, goal: Goal) -> Option<Derivation>
         requires on { GoalOn (held self.now.tables.now) goal }
         ensures { FindsOf K.meaning self.now goal Steps result }
     {

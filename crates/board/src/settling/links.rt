@@ -32,14 +32,14 @@ fn opens<K: Kind>(t: &Tables<K>, row: u8, place: Place) -> Option<Way>
 }
 
 impl<K: Kind> Known<'_, K> {
-    // Lowers what waits by the entry i with each link behind it.
+    // Lowers what waits by the record i with each link behind it.
     pub(crate) fn follow(&self, i: usize, links: &[u32], waiting: &mut Waiting)
         requires within { i < self.now.log.now.count }
         requires links { LinksOf K.meaning self.now links.now }
         requires ok { WaitingOf K.meaning self.now waiting.old }
         ensures { WaitingLower K.meaning self.now waiting.old waiting.new (λ m c l. Followed m c links.now (numbered l i)) }
     {
-        let a = self.log.entries[i];
+        let a = self.log.records[i];
         let s = self.tables.place_number(a.from);
         let r = self.tables.place_number(a.to);
         for q in 0..PLACES {
@@ -47,7 +47,7 @@ impl<K: Kind> Known<'_, K> {
         }
     }
 
-    // Lowers what waits by each entry to the place numbered r with a link at this cost behind it, to the place numbered q.
+    // Lowers what waits by each record to the place numbered r with a link at this cost behind it, to the place numbered q.
     fn follow_to(&self, r: usize, q: usize, cost: u32, waiting: &mut Waiting)
         requires from { r < PLACES }
         requires to { q < PLACES }
@@ -57,7 +57,7 @@ impl<K: Kind> Known<'_, K> {
     {
         for s in 0..PLACES {
             if let Some(i) = self.log.at(s * PLACES + r) {
-                let total = K::join(self.log.entries[i].cost, cost);
+                let total = K::join(self.log.records[i].cost, cost);
                 self.wait(s, q, total, waiting);
             }
         }
@@ -77,7 +77,7 @@ impl<K: Kind> Known<'_, K> {
         }
     }
 
-    // Lowers the link by the open row o, the entry j and the close row w, if they follow on. The open row leads to the entry
+    // Lowers the link by the open row o, the record j and the close row w, if they follow on. The open row leads to the record
     // from the place, by this way.
     fn bracket_by(
         &self,
@@ -95,7 +95,7 @@ impl<K: Kind> Known<'_, K> {
         ensures ok { LinkedOf K.meaning self.now links.new waiting.new }
         ensures lower { LinksLower K.meaning self.now links.old links.new (λ m c l. BracketedBy m c (numbered l j) o w) }
     {
-        let b = self.log.entries[j];
+        let b = self.log.records[j];
         let Some(close) = self.tables.row(w) else {
             return;
         };
@@ -108,7 +108,7 @@ impl<K: Kind> Known<'_, K> {
         self.link(r, q, cost, links, waiting);
     }
 
-    // Lowers the links by the open row o, the entry j and each marked close row.
+    // Lowers the links by the open row o, the record j and each marked close row.
     fn bracket_on(&self, j: usize, o: u8, leads: &[bool], links: &mut [u32], waiting: &mut Waiting)
         requires within { j < self.now.log.now.count }
         requires leads { length leads.now ≡ ROWS }
@@ -117,7 +117,7 @@ impl<K: Kind> Known<'_, K> {
         ensures ok { LinkedOf K.meaning self.now links.new waiting.new }
         ensures lower { LinksLower K.meaning self.now links.old links.new (λ m c l. BracketedOn m c leads.now (numbered l j) o) }
     {
-        let from = self.log.entries[j].from;
+        let from = self.log.records[j].from;
         let Some(open) = self.tables.row(o) else {
             return;
         };
@@ -136,7 +136,7 @@ impl<K: Kind> Known<'_, K> {
         }
     }
 
-    // Lowers the links by the entry j and any marked rows before and behind it.
+    // Lowers the links by the record j and any marked rows before and behind it.
     pub(crate) fn bracket(&self, j: usize, leads: &[bool], links: &mut [u32], waiting: &mut Waiting)
         requires within { j < self.now.log.now.count }
         requires leads { length leads.now ≡ ROWS }

@@ -42,7 +42,7 @@ impl<K: Kind> Known<'_, K> {
         let q = self.tables.place_number(goal.to);
         for r in 0..PLACES {
             if let Some(i) = self.log.at(s * PLACES + r) {
-                let cost = K::join(self.log.entries[i].cost, links[r * PLACES + q]);
+                let cost = K::join(self.log.records[i].cost, links[r * PLACES + q]);
                 if K::no_dearer(cost, goal.cost) {
                     found.push(r as u8);
                 }

@@ -1,4 +1,4 @@
-// Settling, entry by entry.
+// Settling, record by record.
 ghost use Rattle.std.specs.Prelude.{◌≡◌, ◌+◌, [], ◌∷◌, None as ANone, slice_index_or};
 ghost use Rattle.board.specs.Held.{held};
 ghost use Rattle.board.specs.Settling.{SettledLog};
@@ -8,7 +8,7 @@ ghost use Rattle.board.specs.Minima.{State};
 ghost use Rattle.board.specs.Winning.{LeastPair};
 
 use crate::bounds::{PAIRS, PLACES, ROWS};
-use crate::log::{Entry, Log, Source};
+use crate::log::{Derivation, Log, Record};
 use crate::settling::candidates::least_pair;
 use crate::settling::{Goal, Known, Minima, Settling, Waiting};
 use crate::tables::Tables;
@@ -36,19 +36,19 @@ impl Settling {
         settling
     }
 
-    // Settles an entry, finds the least from its first place anew, and lowers what it makes cheaper: candidates that go on from
+    // Settles a record, finds the least from its first place anew, and lowers what it makes cheaper: candidates that go on from
     // it, and links that it is inside.
-    fn settle<K: Kind>(&mut self, tables: &Tables<K>, r: Entry)
+    fn settle<K: Kind>(&mut self, tables: &Tables<K>, r: Record)
         requires state { State K.meaning (held tables.now) self.old.log self.old.minima }
         requires fresh { slice_index_or self.old.log.index (pair_of (held tables.now) r.from r.to) ANone ≡ ANone }
         requires kept { Kept K.meaning (held tables.now) r }
-        requires refers { Refers self.old.log.count r.source }
+        requires refers { Refers self.old.log.count r.derivation }
         ensures state { State K.meaning (held tables.now) self.new.log self.new.minima }
         ensures more { records self.new.log ≡ record_of (records self.old.log) r ∷ records self.old.log }
         ensures count { self.new.log.count ≡ self.old.log.count + 1 }
     {
         let n = self.log.count;
-        let moves = self.log.length_of(r.source);
+        let moves = self.log.length_of(r.derivation);
         self.log.push(tables.pair(r.from, r.to), r, moves);
         let known = Known {
             tables,
@@ -70,11 +70,11 @@ impl Settling {
         for mode in 0..tables.modes {
             for moment in 0..tables.moments {
                 let place = (mode, moment);
-                let start = Entry {
+                let start = Record {
                     from: place,
                     to: place,
                     cost: K::free(),
-                    source: Source::Start,
+                    derivation: Derivation::Start,
                 };
                 self.settle(tables, start);
             }
@@ -100,12 +100,12 @@ impl Settling {
             tables,
             log: &self.log,
         };
-        let source = known.winner(goal, &minima.leads, &minima.links);
-        let r = Entry {
+        let derivation = known.winner(goal, &minima.leads, &minima.links);
+        let r = Record {
             from: goal.from,
             to: goal.to,
             cost: goal.cost,
-            source,
+            derivation,
         };
         self.settle(tables, r);
     }

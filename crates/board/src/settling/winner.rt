@@ -9,13 +9,13 @@ ghost use Rattle.board.specs.Minimizing.{LinksOf};
 ghost use Rattle.board.specs.Winning.{GoalOn, Makes, Wins, Any};
 
 use crate::bounds::ROWS;
-use crate::log::Source;
+use crate::log::Derivation;
 use crate::settling::{Goal, Known};
 use costs::Kind;
 
 impl<K: Kind> Known<'_, K> {
     // Of the candidates that make the goal the first in the order of ties: the first step, or else the first call.
-    pub(crate) fn winner(&self, goal: Goal, leads: &[bool], links: &[u32]) -> Source
+    pub(crate) fn winner(&self, goal: Goal, leads: &[bool], links: &[u32]) -> Derivation
         requires on { GoalOn (held self.now.tables.now) goal }
         requires cost { Cost K.meaning goal.cost }
         requires leads { length leads.now ≡ ROWS }

@@ -9,22 +9,22 @@ use Rattle.file.specs.declared.reader.Stage.TheVariants as stage
 use Rattle.file.specs.Fields.{head_code}
 use Rattle.file.specs.Parts.{Piece}
 use Rattle.file.specs.Sections.{Found, next_section, past}
-use Rattle.file.specs.Readers.{Reading, next_answer, next_after, may_come, following}
+use Rattle.file.specs.Readers.{ReadSoFar, next_answer, next_after, may_come, following}
 use Rattle.file.specs.Records.{go_on}
 use Rattle.file.specs.Load.{Loaded, section_added, comes, in_turn, at_end, from_note, from_lines, from_rows}
 use Rattle.file.specs.Fillings.{from_stage}
 
 -- what an answered section says
-pub record Came (r : Reading) (f : Found) : Type 0 where
+pub record Came (r : ReadSoFar) (f : Found) : Type 0 where
   pub long : 2 ≤ length r.left.bytes
   pub ordered : may_come r.stage (head_code r.left.bytes) ≡ true
   pub is : f ≡ next_section r.left
   pub on : next_after r ≡ record { left = past r.left; stage = following (head_code r.left.bytes) }
 
-pub came : (r : Reading) (f : Found) → next_answer r ≡ Ok (Some f) → Came r f
+pub came : (r : ReadSoFar) (f : Found) → next_answer r ≡ Ok (Some f) → Came r f
 came r f e = record { long = grind (arith, nat_tests); ordered = grind (arith, nat_tests); is = grind (arith, nat_tests); on = grind (arith, nat_tests) }
 
-pub came_less : (r : Reading) (f : Found) → Came r f → length (next_after r).left.bytes < length r.left.bytes
+pub came_less : (r : ReadSoFar) (f : Found) → Came r f → length (next_after r).left.bytes < length r.left.bytes
 came_less r f h = let l = h.long in rw h.on (simp length-drop (omega arith))
 
 -- which codes may come
@@ -104,7 +104,7 @@ module _ (m : Meaning) (trust : ℕ) (p : Piece) (x : Loaded) where
   taken stage.End k long e h = absurd (end_codes k h)
 
 -- the answers of a reader: the end, a refusal, a section
-module _ (m : Meaning) (trust : ℕ) (r : Reading) (x : Loaded) where
+module _ (m : Meaning) (trust : ℕ) (r : ReadSoFar) (x : Loaded) where
   pub reader_end : next_answer r ≡ Ok None → from_stage m trust r.stage r.left x ≡ Ok x
   unfolding at_end Stuck
   reader_end e = let z : length r.left.bytes ≡ 0 = grind (arith, nat_tests) in stage_stuck m trust r.left x r.stage (inl (omega arith)) ∙ rw z

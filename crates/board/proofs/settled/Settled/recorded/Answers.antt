@@ -1,5 +1,5 @@
 use Rattle.std.proofs.Common.{ap, ◌∙◌}
-use Rattle.board.specs.Entries.{reading_of}
+use Rattle.board.specs.ByNumber.{reading_of}
 use Rattle.board.proofs.Questions.Scanning.{moments_none, moments_more, rows_none, rows_more, rows_all, reading_better, better_within}
 use Rattle.board.proofs.settled.Settled.recorded.Goals as goal
 

@@ -2,7 +2,7 @@ use Rattle.std.proofs.Common.{◌≡◌, length}
 use Rattle.board.specs.Held.{held}
 use Rattle.board.specs.Logged.{records}
 use Rattle.board.specs.Computing.{best_moments, best_rows}
-use Rattle.board.specs.Entries.{ReadingIn, reading_of}
+use Rattle.board.specs.ByNumber.{ReadingIn, reading_of}
 use Rattle.board.proofs.settled.Settled.recorded.Given as goal
 
 abbrev pub invariant-loop-n : goal.invariant-loop-n

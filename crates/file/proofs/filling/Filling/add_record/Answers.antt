@@ -17,5 +17,5 @@ returns-in_err-record-clause-after g c =
     let p = err_from_is_err_and c.from_residual.result c.from_residual.ensures.1 in
     let long : 8 ≤ length bs = search rules in
     let w : c.from_be_bytes-word.result ≡ word8 bs = search rules in
-    let h : Err c.in_err-record.field-0.0 ≡ g.R.Record.read_as c.from_be_bytes-word.result = search rules in
-    rw (p.1, p.2) (unread (g.R.Record.read_as) (g.R.Record.added g.K.Kind.meaning c.args.self.now.trust) bs (draft_content c.args.self.now.draft.now) c.from_be_bytes-word.result c.in_err-record.field-0.0 long w h)
+    let h : Err c.in_err-record.field-0.0 ≡ g.R.SectionRecord.read_as c.from_be_bytes-word.result = search rules in
+    rw (p.1, p.2) (unread (g.R.SectionRecord.read_as) (g.R.SectionRecord.added g.K.Kind.meaning c.args.self.now.trust) bs (draft_content c.args.self.now.draft.now) c.from_be_bytes-word.result c.in_err-record.field-0.0 long w h)

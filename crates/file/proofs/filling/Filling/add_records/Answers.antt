@@ -9,7 +9,7 @@ use Rattle.file.proofs.filling.Filling.add_records.Goals as goal
 pub returns-in_err-map_err-clause-after : goal.returns-in_err-map_err-clause-after
 returns-in_err-map_err-clause-after g c =
     let l = c.loop in
-    let add = record_added g.R.Record.read_as (g.R.Record.added g.K.Kind.meaning l.self.trust) in
+    let add = record_added g.R.SectionRecord.read_as (g.R.SectionRecord.added g.K.Kind.meaning l.self.trust) in
     let p = err_from_is_err_and c.from_residual.result c.from_residual.ensures.1 in
     let t : told c.add_record.result (draft_content c.add_record.new.self.draft.now) ≡ record_next add l.part.bytes.now (draft_content l.self.draft.now) = c.add_record.ensures.after in
     let o : at_place c.add_record.result l.part.place ≡ Err c.in_err-map_err.field-0.0 = search rules in
@@ -18,7 +18,7 @@ returns-in_err-map_err-clause-after g c =
 pub loop-preserved : goal.loop-preserved
 loop-preserved g c =
     let l = c.loop in
-    let add = record_added g.R.Record.read_as (g.R.Record.added g.K.Kind.meaning l.self.trust) in
+    let add = record_added g.R.SectionRecord.read_as (g.R.SectionRecord.added g.K.Kind.meaning l.self.trust) in
     let o : c.add_record.result ≡ Ok tt = search rules in
     let d = draft_content c.add_record.new.self.draft.now in
     let t : c.add_record.new.self.trust ≡ l.self.trust = search rules in

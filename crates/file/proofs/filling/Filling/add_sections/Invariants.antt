@@ -1,13 +1,13 @@
 -- What is left gives what the whole does.
 use Rattle.std.proofs.Common.{◌≡◌, length}
-use Rattle.file.specs.Readers.{reading}
+use Rattle.file.specs.Readers.{read_so_far}
 use Rattle.file.specs.Fillings.{so_far, from_stage}
 use Rattle.file.proofs.filling.Filling.add_sections.Given as goal
 
 abbrev pub invariant-loop-section : goal.invariant-loop-section
 invariant-loop-section g l = record {
-  left : from_stage g.K.Kind.meaning l.self.trust l.reader.stage (reading l.reader).left (so_far l.self)
-      ≡ from_stage g.K.Kind.meaning l.fn.self.trust l.fn.reader.stage (reading l.fn.reader).left (so_far l.fn.self);
+  left : from_stage g.K.Kind.meaning l.self.trust l.reader.stage (read_so_far l.reader).left (so_far l.self)
+      ≡ from_stage g.K.Kind.meaning l.fn.self.trust l.fn.reader.stage (read_so_far l.fn.reader).left (so_far l.fn.self);
   same : (l.self.draft.ghost_name ≡ l.fn.self.draft.ghost_name) × (l.self.trust ≡ l.fn.self.trust);
 }
 

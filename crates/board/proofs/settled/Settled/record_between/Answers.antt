@@ -1,7 +1,7 @@
 use Rattle.std.proofs.Common.{sym, arith}
 use Rattle.board.specs.Held.{held}
 use Rattle.board.proofs.Questions.Holding.{at_index, place_none}
-use Rattle.board.proofs.settled.Settled.entry_of.Goals as goal
+use Rattle.board.proofs.settled.Settled.record_between.Goals as goal
 
 pub returns-then-from-places-clause-which : goal.returns-then-from-places-clause-which
 returns-then-from-places-clause-which g c =

@@ -26,8 +26,8 @@ abbrev pub reserved : ℕ → Bool
 reserved b = spacing b || (newline b || (point b || star b))
 
 -- a word without them
-abbrev pub Plain : List ℕ → Type 0
-Plain w = (0 < length w) × NoSeparator reserved w
+abbrev pub Unreserved : List ℕ → Type 0
+Unreserved w = (0 < length w) × NoSeparator reserved w
 
 -- what one test rules out another does
 pub fewer : (sep also : ℕ → Bool) → ((b : ℕ) → sep b ≡ false → also b ≡ false) → (bs : List ℕ) → NoSeparator sep bs → NoSeparator also bs
@@ -60,11 +60,11 @@ free_text (b ∷ bs) free =
     let both = and_parts (not (reserved b)) (all_free bs) free in
     (not-true (reserved b) both.0, free_text bs both.1)
 
-abbrev pub is_plain : List ℕ → Bool
-is_plain w = ltb 0 (length w) && all_free w
+abbrev pub is_unreserved : List ℕ → Bool
+is_unreserved w = ltb 0 (length w) && all_free w
 
-pub plain_text : (w : List ℕ) → is_plain w ≡ true → Plain w
-plain_text w free =
+pub unreserved_text : (w : List ℕ) → is_unreserved w ≡ true → Unreserved w
+unreserved_text w free =
     let both = and_parts (ltb 0 (length w)) (all_free w) free in
     (ltb-true 0 (length w) both.0, free_text w both.1)
 
@@ -79,8 +79,8 @@ free_digits (d ∷ ds) digits =
     (free_digit d both.0, free_digits ds both.1)
 
 module _ (laws : WordLaws) where
-  pub plain_decimal : (n : ℕ) → n < 2 ^ 64 → Plain (decimal n)
-  plain_decimal n small = (decimal_nonempty n small, free_digits (decimal n) (laws.digits n small))
+  pub unreserved_decimal : (n : ℕ) → n < 2 ^ 64 → Unreserved (decimal n)
+  unreserved_decimal n small = (decimal_nonempty n small, free_digits (decimal n) (laws.digits n small))
 
 -- hexadecimal digits
 free_hex : (b v : ℕ) → hex_digit_value b ≡ Some v → reserved b ≡ false
@@ -94,11 +94,11 @@ unfolding encode_with
 free_bytes [] small = tt
 free_bytes (b ∷ bs) small = (free_value (b / 16) (omega (arith, small.0)), (free_value (b % 16) (omega arith), free_bytes bs small.1))
 
-pub plain_bytes : (b : ℕ) (bs : List ℕ) → AllByRecursion (λ b. b < 2 ^ 8) (b ∷ bs) → Plain (written_bytes (b ∷ bs))
-plain_bytes b bs small = (omega (arith, length-encode_with lower_digits (b ∷ bs)), free_bytes (b ∷ bs) small)
+pub unreserved_bytes : (b : ℕ) (bs : List ℕ) → AllByRecursion (λ b. b < 2 ^ 8) (b ∷ bs) → Unreserved (written_bytes (b ∷ bs))
+unreserved_bytes b bs small = (omega (arith, length-encode_with lower_digits (b ∷ bs)), free_bytes (b ∷ bs) small)
 
-pub plain_u16 : (n : ℕ) → n < 2 ^ 16 → Plain (written_u16 n)
-plain_u16 n small = plain_bytes (n / 256) (n % 256 ∷ []) (omega arith, (omega arith, tt))
+pub unreserved_u16 : (n : ℕ) → n < 2 ^ 16 → Unreserved (written_u16 n)
+unreserved_u16 n small = unreserved_bytes (n / 256) (n % 256 ∷ []) (omega arith, (omega arith, tt))
 
 -- a kind's letter
 free_letter : (k : KindName) → reserved (letter_of k) ≡ false
@@ -106,8 +106,8 @@ free_letter Points = refl
 free_letter Severity = refl
 free_letter Rank = refl
 
-pub plain_letter : (k : KindName) → Plain (letter_of k ∷ [])
-plain_letter k = (omega arith, (free_letter k, tt))
+pub unreserved_letter : (k : KindName) → Unreserved (letter_of k ∷ [])
+unreserved_letter k = (omega arith, (free_letter k, tt))
 
 -- pieces of lines
 module _ (laws : WordLaws) where
@@ -116,43 +116,43 @@ module _ (laws : WordLaws) where
   one_piece sep [] some uncut = absurd (omega (arith, some))
   one_piece sep (b ∷ bs) some uncut = (laws.cuts sep).one b bs uncut
 
-  -- a line of plain words
-  word_piece : (w : List ℕ) → Plain w → pieces_of spacing w ≡ w ∷ []
-  word_piece w plain = one_piece spacing w plain.0 (fewer reserved spacing no_spacing w plain.1)
+  -- a line of unreserved words
+  word_piece : (w : List ℕ) → Unreserved w → pieces_of spacing w ≡ w ∷ []
+  word_piece w free = one_piece spacing w free.0 (fewer reserved spacing no_spacing w free.1)
 
-  pub spaced_pieces : (w : List ℕ) (ws : List (List ℕ)) → Plain w → AllByRecursion Plain ws → pieces_of spacing (w ++ spaced ws) ≡ w ∷ ws
-  spaced_pieces w [] plain plains = ap (pieces_of spacing) (append-nil w) ∙ word_piece w plain
-  spaced_pieces w (v ∷ ws) plain plains =
+  pub spaced_pieces : (w : List ℕ) (ws : List (List ℕ)) → Unreserved w → AllByRecursion Unreserved ws → pieces_of spacing (w ++ spaced ws) ≡ w ∷ ws
+  spaced_pieces w [] free others = ap (pieces_of spacing) (append-nil w) ∙ word_piece w free
+  spaced_pieces w (v ∷ ws) free others =
       (laws.cuts spacing).apart w 32 (v ++ spaced ws) refl
-      ∙ ap (λ ps. ps ++ pieces_of spacing (v ++ spaced ws)) (word_piece w plain)
-      ∙ ap (λ ps. w ∷ ps) (spaced_pieces v ws plains.0 plains.1)
+      ∙ ap (λ ps. ps ++ pieces_of spacing (v ++ spaced ws)) (word_piece w free)
+      ∙ ap (λ ps. w ∷ ps) (spaced_pieces v ws others.0 others.1)
 
 -- a byte, besides a space, that no word has is not in the line
 module _ (laws : WordLaws) (also : ℕ → Bool) (rules : (b : ℕ) → reserved b ≡ false → also b ≡ false) (space : also 32 ≡ false) where
-  word_without : (w : List ℕ) → Plain w → NoSeparator also w
-  word_without w plain = fewer reserved also rules w plain.1
+  word_without : (w : List ℕ) → Unreserved w → NoSeparator also w
+  word_without w free = fewer reserved also rules w free.1
 
-  spaced_without : (ws : List (List ℕ)) → AllByRecursion Plain ws → NoSeparator also (spaced ws)
-  spaced_without [] plains = tt
-  spaced_without (w ∷ ws) plains = (space, laws.uncut also w (spaced ws) (word_without w plains.0) (spaced_without ws plains.1))
+  spaced_without : (ws : List (List ℕ)) → AllByRecursion Unreserved ws → NoSeparator also (spaced ws)
+  spaced_without [] others = tt
+  spaced_without (w ∷ ws) others = (space, laws.uncut also w (spaced ws) (word_without w others.0) (spaced_without ws others.1))
 
-  pub line_without : (w : List ℕ) (ws : List (List ℕ)) → Plain w → AllByRecursion Plain ws → NoSeparator also (w ++ spaced ws)
-  line_without w ws plain plains = laws.uncut also w (spaced ws) (word_without w plain) (spaced_without ws plains)
+  pub line_without : (w : List ℕ) (ws : List (List ℕ)) → Unreserved w → AllByRecursion Unreserved ws → NoSeparator also (w ++ spaced ws)
+  line_without w ws free others = laws.uncut also w (spaced ws) (word_without w free) (spaced_without ws others)
 
--- A line begins and ends with a plain word.
+-- A line begins and ends with an unreserved word.
 pub record Ends (line : List ℕ) : Type 0 where
   pub front : List ℕ
   pub last : List ℕ
-  pub plain : Plain last
+  pub free : Unreserved last
   pub is : line ≡ front ++ last
 
-pub line_ends : (w : List ℕ) (ws : List (List ℕ)) → Plain w → AllByRecursion Plain ws → Ends (w ++ spaced ws)
-line_ends w [] plain plains = record { front = []; last = w; plain = plain; is = append-nil w }
-line_ends w (v ∷ ws) plain plains =
-    let e = line_ends v ws plains.0 plains.1 in
+pub line_ends : (w : List ℕ) (ws : List (List ℕ)) → Unreserved w → AllByRecursion Unreserved ws → Ends (w ++ spaced ws)
+line_ends w [] free others = record { front = []; last = w; free = free; is = append-nil w }
+line_ends w (v ∷ ws) free others =
+    let e = line_ends v ws others.0 others.1 in
     record {
       front = w ++ (32 ∷ e.front);
       last = e.last;
-      plain = e.plain;
+      free = e.free;
       is = ap (λ l. w ++ (32 ∷ l)) e.is ∙ sym (append_assoc w (32 ∷ e.front) e.last);
     }
