@@ -1,5 +1,5 @@
 -- The promises of settling, put together.
-use Rattle.board.specs.Promises.{SoundContentsSettle, SettlingIsComputed, HoldsOfEveryContent}
+use Rattle.board.specs.Promises.{SoundContentsSettle, SettlingIsComputed, CallsKeepEaseAndSettle}
 use Rattle.board.proofs.Rounds.Spelling.{spelled}
 use Rattle.board.proofs.Rounds.Pairs.{record_on, distinct}
 use Rattle.board.proofs.Rounds.Minimal.{minimal, least_cost, record_below, rising}
@@ -42,5 +42,5 @@ settling_promises m c laws sound = (
 pub settling_computed : SettlingIsComputed
 settling_computed m c laws sound = computed laws sound
 
-pub board_promises : HoldsOfEveryContent
+pub board_promises : CallsKeepEaseAndSettle
 board_promises = record { kept = calls_keep; eased = λ m laws. calls_ease laws; settling = settling_promises; computed = settling_computed }

@@ -6,14 +6,14 @@ use Rattle.board.specs.declared.row.Row.{Row}
 use Rattle.board.specs.declared.row.Line.{Line}
 use Rattle.board.specs.declared.refusal.Refusal.{Refusal}
 use Rattle.board.specs.declared.refusal.Refusal.TheVariants.{NotEmpty, SizeOut, RowsFull, ModeOut, BadRow, LinesFull, MomentOut, NoEvent, NoSuch, NotACost}
-use Rattle.board.specs.Refusals.{first_fault, unless}
+use Rattle.board.specs.Refusals.{first_refusal, unless}
 use Rattle.board.specs.Rows.{formed}
 use Rattle.board.specs.Content.{Content, new, Sound}
 
 -- Why size is declined: a row or a line is held (1); M times T is 0 or above 64 (2).
 abbrev pub size_fault : Content → ℕ → ℕ → Option Refusal
 size_fault c modes moments =
-    first_fault
+    first_refusal
     (((not (length c.rows == 0) || not (length c.lines == 0)), NotEmpty)
     ∷ ((modes * moments == 0 || nat_lt most_places (modes * moments)), SizeOut)
     ∷ [])
@@ -29,7 +29,7 @@ size_after c modes moments = unless (size_fault c modes moments) (with_size c mo
 -- Why a row is declined: 128 are held (3); a mode is not below M (4); the row is not formed (5); its cost is none (10).
 abbrev pub row_fault : Meaning → Content → Row → Option Refusal
 row_fault m c r =
-    first_fault
+    first_refusal
     ((nat_le most_rows (length c.rows), RowsFull)
     ∷ ((nat_le c.modes r.from || nat_le c.modes r.to), ModeOut)
     ∷ (not (formed r.kind r), BadRow)
@@ -54,7 +54,7 @@ line_faults m moments l =
 
 -- Why a line is declined: 128 are held (6), or the first of its own faults.
 abbrev pub line_fault : Meaning → Content → Line → Option Refusal
-line_fault m c l = first_fault ((nat_le most_lines (length c.lines), LinesFull) ∷ line_faults m c.moments l)
+line_fault m c l = first_refusal ((nat_le most_lines (length c.lines), LinesFull) ∷ line_faults m c.moments l)
 
 -- the content with this line last
 abbrev pub with_line : Content → Line → Content
@@ -66,7 +66,7 @@ line_after m c l = unless (line_fault m c l) (with_line c l) c
 
 -- Why repricing row or line i is declined: there is none (9); the cost is none (10).
 abbrev pub reprice_fault : {A : Type 0} → Meaning → List A → ℕ → ℕ → Option Refusal
-reprice_fault m xs i cost = first_fault ((nat_le (length xs) i, NoSuch) ∷ (not (m.is_cost cost), NotACost) ∷ [])
+reprice_fault m xs i cost = first_refusal ((nat_le (length xs) i, NoSuch) ∷ (not (m.is_cost cost), NotACost) ∷ [])
 
 -- the element at i changed by f, and every other as it was
 abbrev pub changed : {A : Type 0} → (A → A) → List A → ℕ → List A
@@ -103,7 +103,7 @@ abbrev pub without_lines : Content → Content
 without_lines c = record { modes = c.modes; moments = c.moments; rows = c.rows; lines = [] }
 
 -- Every call but load, which makes these calls, keeps a sound content sound, and a new board's is.
-pub record CallsKeep (m : Meaning) : Type 0 where
+pub record CallsKeepSound (m : Meaning) : Type 0 where
   pub begun : Sound m new
   pub sized : (c : Content) (modes moments : ℕ) → Sound m c → Sound m (size_after c modes moments)
   pub row_added : (c : Content) (r : Row) → Sound m c → Sound m (row_after m c r)

@@ -1,12 +1,12 @@
 -- What the checker's state means.
 use Rattle.std.specs.Prelude.{ℕ, List, reverse, Ok, Err, Result}
-use Rattle.board.specs.declared.checker.Brackets.{Brackets}
+use Rattle.board.specs.declared.checker.OpenBrackets.{OpenBrackets}
 use Rattle.board.specs.declared.checker.Checker.{Checker}
 use Rattle.board.specs.declared.refusal.Refusal.{Refusal}
 use Rattle.board.specs.Checks.{Progress}
 
 -- the brackets that are open, the last one first
-abbrev pub unclosed_of : Brackets → List ℕ
+abbrev pub unclosed_of : OpenBrackets → List ℕ
 unclosed_of b = reverse b.open.items
 
 -- how far the checker has come

@@ -20,12 +20,12 @@ below zero = []
 below (suc n) = n ∷ below n
 
 -- the moves by row i: alone, and with each of these lines
-abbrev pub moves_of : List ℕ → ℕ → List Move
-moves_of ls i = bare i ∷ map (λ j. record { row = i; line = Some j }) ls
+abbrev pub moves_by_row : List ℕ → ℕ → List Move
+moves_by_row ls i = bare i ∷ map (λ j. record { row = i; line = Some j }) ls
 
 -- the moves by every row, alone and with every line
 abbrev pub all_moves : Content → List Move
-all_moves c = flat_map (moves_of (below (length c.lines))) (below (length c.rows))
+all_moves c = flat_map (moves_by_row (below (length c.lines))) (below (length c.rows))
 
 -- whether the two places are one
 abbrev pub same_place : Place → Place → Bool
@@ -89,8 +89,8 @@ abbrev pub candidates : Meaning → Content → List Record → List Record
 candidates m c log = flat_map (λ a. flat_map (from_record m c log a) (all_moves c)) log
 
 -- whether no record of the log is of the pair of x
-abbrev pub unsettled? : List Record → Record → Bool
-unsettled? log x = list_all (λ a. not (same_place a.from x.from && same_place a.to x.to)) log
+abbrev pub unrecorded? : List Record → Record → Bool
+unrecorded? log x = list_all (λ a. not (same_place a.from x.from && same_place a.to x.to)) log
 
 -- the test of the lexicographic order
 abbrev pub lex? : List ℕ → List ℕ → Bool
@@ -116,7 +116,7 @@ next_of m c (x ∷ xs) =
 
 -- the record that the next round adds, if there is one
 abbrev pub next : Meaning → Content → List Record → Option Record
-next m c log = next_of m c (filter (unsettled? log) (candidates m c log))
+next m c log = next_of m c (filter (unrecorded? log) (candidates m c log))
 
 -- the log as it is where there is no next record, else what f makes of the next record
 abbrev pub run_on : List Record → (Record → List Record) → Option Record → List Record
@@ -145,20 +145,20 @@ unfoldable pub record_between : Content → List Record → ℕ → ℕ → Opti
 record_between c log s q = find (λ a. joins? c a s q) log
 
 -- a reading that was found: its end row, its cost and its moves
-pub record ReadingFound : Type 0 where
+pub record Reading : Type 0 where
   pub row : ℕ
   pub cost : ℕ
   pub moves : List Move
 
 -- the record a and then the row i, which leads to h, if that is an end row
-abbrev pub ending : Meaning → ℕ → Option Arrival → Option Record → Option ReadingFound
+abbrev pub ending : Meaning → ℕ → Option Arrival → Option Record → Option Reading
 ending m i None a = None
 ending m i (Some h) None = None
 ending m i (Some h) (Some a) =
     cond (is_end h.effect) (Some (record { row = i; cost = m.join a.cost h.cost; moves = a.moves ++ (bare i ∷ []) })) None
 
 -- the reading by the row i at the place p: the record from place 0 to p, and that row
-abbrev pub reading_at : Meaning → Content → List Record → ℕ → Place → Option ReadingFound
+abbrev pub reading_at : Meaning → Content → List Record → ℕ → Place → Option Reading
 reading_at m c log i p = ending m i (arrival_on m c (bare i) p) (record_between c log 0 (place_number c p))
 
 -- what the next must cost less than, to be better
@@ -173,11 +173,11 @@ better_by m cost b None = b
 better_by m cost b (Some x) = cond (m.no_dearer (limit_by m cost b) (cost x)) b (Some x)
 
 -- the better of two readings
-abbrev pub better : Meaning → Option ReadingFound → Option ReadingFound → Option ReadingFound
+abbrev pub better : Meaning → Option Reading → Option Reading → Option Reading
 better m b o = better_by m (λ f. f.cost) b o
 
 -- the best of b and the readings by the row i in the mode n at the moments below t
-unfoldable pub best_moments : Meaning → Content → List Record → ℕ → ℕ → ℕ → Option ReadingFound → Option ReadingFound
+unfoldable pub best_moments : Meaning → Content → List Record → ℕ → ℕ → ℕ → Option Reading → Option Reading
 best_moments m c log i n zero b = b
 best_moments m c log i n (suc t) b = better m (best_moments m c log i n t b) (reading_at m c log i (n, t))
 
@@ -187,10 +187,10 @@ mode_left None = 0
 mode_left (Some r) = r.from
 
 -- the best of the readings by the rows below n
-unfoldable pub best_rows : Meaning → Content → List Record → ℕ → Option ReadingFound
+unfoldable pub best_rows : Meaning → Content → List Record → ℕ → Option Reading
 best_rows m c log zero = None
 best_rows m c log (suc n) = best_moments m c log n (mode_left (move_row c n)) c.moments (best_rows m c log n)
 
 -- the recorded reading of a log, if it has one
-unfoldable pub recorded_reading : Meaning → Content → List Record → Option ReadingFound
+unfoldable pub recorded_reading : Meaning → Content → List Record → Option Reading
 recorded_reading m c log = best_rows m c log (length c.rows)

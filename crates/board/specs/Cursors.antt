@@ -9,12 +9,12 @@ use Rattle.board.specs.Settling.{bare}
 use Rattle.board.specs.Spelled.{moves_at}
 
 -- the moves of a pending call as far as its inside: those of its front, and its open row
-abbrev pub opened : Log → Pending → List Move
-opened l p = moves_at l p.front ++ (bare p.row ∷ [])
+abbrev pub pending_moves : Log → Pending → List Move
+pending_moves l p = moves_at l p.front ++ (bare p.row ∷ [])
 
 -- the moves that the cursor has yet to give, in their order
 abbrev pub remaining : Log → Cursor → List Move
-remaining l c = flat_map (opened l) c.stack.items ++ moves_at l c.at
+remaining l c = flat_map (pending_moves l) c.stack.items ++ moves_at l c.at
 
 -- The record being read, and the front of each pending call, has at least as many records of the log after it as there
 -- are calls around it: so there are always fewer pending calls than records.

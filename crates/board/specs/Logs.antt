@@ -34,10 +34,10 @@ abbrev pub nth_record : Log → ℕ → Record
 nth_record l i = record_at l.records i
 
 -- how many pairs have a number
-abbrev pub filled : List (Option ℕ) → ℕ
-filled [] = 0
-filled (None ∷ xs) = filled xs
-filled (Some i ∷ xs) = suc (filled xs)
+abbrev pub settled_count : List (Option ℕ) → ℕ
+settled_count [] = 0
+settled_count (None ∷ xs) = settled_count xs
+settled_count (Some i ∷ xs) = suc (settled_count xs)
 
 -- the record is between places of the board, at a cost of the kind
 pub record Kept (m : Meaning) (c : Content) (r : LogRecord) : Type 0 where
@@ -59,7 +59,7 @@ pub record Book (m : Meaning) (c : Content) (l : Log) : Type 0 where
   pub kept : (i : ℕ) → i < l.count → Kept m c (numbered l i)
   pub found : (i : ℕ) → i < l.count → slice_index_or l.index (pair_of c (numbered l i).from (numbered l i).to) None ≡ Some i
   pub finds : (p i : ℕ) → slice_index_or l.index p None ≡ Some i → (i < l.count) × (pair_of c (numbered l i).from (numbered l i).to ≡ p)
-  pub full : filled l.index ≡ l.count
+  pub full : settled_count l.index ≡ l.count
   pub lengths_long : length l.lengths ≡ 4096
   pub spells : Spells l
 

@@ -11,8 +11,8 @@ abbrev pub Attained : Meaning → Costing → List ℕ → Type 0
 Attained m R xs = (p : ℕ) → p < length xs → (slice_index xs p ≡ m.worst) ⊎ R p (slice_index xs p)
 
 -- no number can have a cost cheaper than that of the list
-abbrev pub Bounds : Meaning → Costing → List ℕ → Type 0
-Bounds m P xs = (p k : ℕ) → P p k → NoDearer m (slice_index xs p) k
+abbrev pub LowerBound : Meaning → Costing → List ℕ → Type 0
+LowerBound m P xs = (p k : ℕ) → P p k → NoDearer m (slice_index xs p) k
 
 -- the list with the cost k at p, where what stands there is dearer
 abbrev pub lowered : Meaning → List ℕ → ℕ → ℕ → List ℕ
@@ -23,7 +23,7 @@ pub record Lowered (m : Meaning) (R : Costing) (xs xs' : List ℕ) (P : Costing)
   pub long : length xs' ≡ length xs
   pub attained : Attained m R xs'
   pub lower : (p : ℕ) → p < length xs → NoDearer m (slice_index xs' p) (slice_index xs p)
-  pub bounds : Bounds m P xs'
+  pub bounds : LowerBound m P xs'
 
 -- one of Q 0 to Q n, without the last
 abbrev pub Among : (ℕ → Costing) → ℕ → Costing

@@ -11,7 +11,7 @@ use Rattle.board.specs.Paths.{BalancedPath, Complete}
 use Rattle.board.specs.Packing.{packed}
 use Rattle.board.specs.Checks.{check_answer}
 use Rattle.board.specs.Settling.{Cheaper, Record, RecordedReading}
-use Rattle.board.specs.Promises.{LeastCost, NoneBelow}
+use Rattle.board.specs.Promises.{LeastCost, NoReadingBelowWorst}
 
 -- What an answered cost k and number n mean: the recorded reading is complete, has them, and no complete reading is
 -- cheaper.
@@ -24,14 +24,14 @@ pub record CheapestReading (m : Meaning) (c : Content) (log : List Record) (k n 
   pub cheapest : (other : List Move) (x : ℕ) → Complete m c other x → NoDearer m k x
 
 -- what the cost question's answer means: the cheapest complete reading, or that none costs less than the worst
-abbrev pub CostMeans : Meaning → Content → List Record → Result (ℕ × ℕ) Refusal → Type 0
-CostMeans m c log (Ok a) = CheapestReading m c log a.0 a.1
-CostMeans m c log (Err e) = (e ≡ NoReading) × NoneBelow m c
+abbrev pub CostIsCheapest : Meaning → Content → List Record → Result (ℕ × ℕ) Refusal → Type 0
+CostIsCheapest m c log (Ok a) = CheapestReading m c log a.0 a.1
+CostIsCheapest m c log (Err e) = (e ≡ NoReading) × NoReadingBelowWorst m c
 
 -- What an answered number n and the buffer after it mean: the recorded reading is complete, no complete reading is
 -- cheaper, it has n moves, for which there was room, they stand packed at the front of the buffer, whose rest is as it
 -- was, and the check accepts them at the reading's cost.
-pub record Written (m : Meaning) (c : Content) (log : List Record) (buffer : List ℕ) (n : ℕ) (after : List ℕ) : Type 0 where
+pub record WritesCheapest (m : Meaning) (c : Content) (log : List Record) (buffer : List ℕ) (n : ℕ) (after : List ℕ) : Type 0 where
   pub cost : ℕ
   pub reading : List Move
   pub recorded : RecordedReading m c log cost reading
@@ -52,12 +52,12 @@ pub record ReadingTooLong (m : Meaning) (c : Content) (log : List Record) (buffe
 
 -- why path is declined
 abbrev pub PathDeclined : Meaning → Content → List Record → List ℕ → Refusal → Type 0
-PathDeclined m c log buffer e = ((e ≡ NoReading) × NoneBelow m c) ⊎ ((e ≡ TooLong) × ReadingTooLong m c log buffer)
+PathDeclined m c log buffer e = ((e ≡ NoReading) × NoReadingBelowWorst m c) ⊎ ((e ≡ TooLong) × ReadingTooLong m c log buffer)
 
 -- what path's answer and the buffer after it mean: the cheapest complete reading is written, or the buffer is as it was
-abbrev pub PathMeans : Meaning → Content → List Record → List ℕ → Result ℕ Refusal → List ℕ → Type 0
-PathMeans m c log buffer (Ok n) after = Written m c log buffer n after
-PathMeans m c log buffer (Err e) after = PathDeclined m c log buffer e × (after ≡ buffer)
+abbrev pub PathWritesCheapest : Meaning → Content → List Record → List ℕ → Result ℕ Refusal → List ℕ → Type 0
+PathWritesCheapest m c log buffer (Ok n) after = WritesCheapest m c log buffer n after
+PathWritesCheapest m c log buffer (Err e) after = PathDeclined m c log buffer e × (after ≡ buffer)
 
 -- the places that the two numbers stand for
 pub record Pair (c : Content) (s q : ℕ) : Type 0 where
@@ -81,6 +81,6 @@ pub record NoneBetween (m : Meaning) (c : Content) (s q : ℕ) : Type 0 where
 
 -- what between's answer means: the least cost of the pair, that a number stands for no place, or that no balanced path
 -- below the worst joins the pair
-abbrev pub BetweenMeans : Meaning → Content → ℕ → ℕ → Result ℕ Refusal → Type 0
-BetweenMeans m c s q (Ok k) = LeastBetween m c s q k
-BetweenMeans m c s q (Err e) = ((e ≡ PlaceOut) × (Pair c s q → ⊥)) ⊎ ((e ≡ Unsettled) × NoneBetween m c s q)
+abbrev pub BetweenIsLeast : Meaning → Content → ℕ → ℕ → Result ℕ Refusal → Type 0
+BetweenIsLeast m c s q (Ok k) = LeastBetween m c s q k
+BetweenIsLeast m c s q (Err e) = ((e ≡ PlaceOut) × (Pair c s q → ⊥)) ⊎ ((e ≡ Unsettled) × NoneBetween m c s q)

@@ -17,7 +17,7 @@ use Rattle.board.specs.Moves.{Place, place_number, Transition}
 use Rattle.board.specs.Settling.{Record, bare, Candidate}
 use Rattle.board.specs.Logged.{records}
 use Rattle.board.specs.Logs.{numbered, Ready, pair_of}
-use Rattle.board.specs.Lowering.{Costing, Attained, Bounds, Among}
+use Rattle.board.specs.Lowering.{Costing, Attained, LowerBound, Among}
 
 -- where the row o leads from p as an open row, or that it is none there
 abbrev pub OpensWay : Meaning → Content → ℕ → Place → Option Way → Type 0
@@ -122,7 +122,7 @@ pub record WaitingHeld (m : Meaning) (c : Content) (l : Log) (w : Waiting) : Typ
 pub record Linked (m : Meaning) (c : Content) (l : Log) (links : List ℕ) (waiting : Waiting) : Type 0 where
   pub held_links : LinksHeld m c l links
   pub held_waiting : WaitingHeld m c l waiting
-  pub followed : (i : ℕ) → i < l.count → Bounds m (Followed m c links (numbered l i)) waiting.costs
+  pub followed : (i : ℕ) → i < l.count → LowerBound m (Followed m c links (numbered l i)) waiting.costs
 
 -- the open row o, the record and the close row w, both rows marked
 pub record BracketedIf (m : Meaning) (c : Content) (leads : List Bool) (b : LogRecord) (o w p k : ℕ) : Type 0 where
@@ -161,9 +161,9 @@ Led m c leads = (row : ℕ) → LedAt m c leads row
 
 -- What holds after each record, of the log and the least costs: links are the least there are, candidates belong to them, and
 -- each row has a marked row that stands for it.
-pub record State (m : Meaning) (c : Content) (l : Log) (s : Minima) : Type 0 where
+pub record SettlingInvariant (m : Meaning) (c : Content) (l : Log) (s : Minima) : Type 0 where
   pub ready : Ready m c l
   pub linked : Linked m c l s.links s.waiting
-  pub links_bounds : Bounds m (Link m c l) s.links
+  pub links_bounds : LowerBound m (Link m c l) s.links
   pub leads_long : length s.leads ≡ 128
   pub led : Led m c s.leads

@@ -1,5 +1,6 @@
 -- Paths, balance, and complete readings.
-use Rattle.std.specs.Prelude.{◌≡◌, ℕ, cond, ◌↔◌, List, [], ◌∷◌, ◌++◌, Some, None, Option, ◌==◌}
+use Rattle.std.specs.Prelude.{◌≡◌, ℕ, Bool, true, false, cond, ◌↔◌, List, [], ◌∷◌, ◌++◌, Some, None, Option, ◌==◌}
+use Rattle.std.specs.List.{filter}
 use Rattle.costs.specs.Meaning.{Meaning}
 use Rattle.costs.specs.Lists.{joined}
 use Rattle.board.specs.declared.moves.Move.{Move}
@@ -21,13 +22,16 @@ pub data Dyck : List Effect → Type 0 where
   both : {a b : List Effect} → Dyck a → Dyck b → Dyck (a ++ b)
   pair : {a : List Effect} (n : ℕ) → Dyck a → Dyck (Opens n ∷ (a ++ (Closes n ∷ [])))
 
+-- whether an effect is a bracket, opened or closed
+abbrev pub is_bracket : Effect → Bool
+is_bracket Quiet = false
+is_bracket (Opens n) = true
+is_bracket (Closes n) = true
+is_bracket Ends = false
+
 -- the brackets alone
 abbrev pub brackets : List Effect → List Effect
-brackets [] = []
-brackets (Quiet ∷ es) = brackets es
-brackets (Opens n ∷ es) = Opens n ∷ brackets es
-brackets (Closes n ∷ es) = Closes n ∷ brackets es
-brackets (Ends ∷ es) = brackets es
+brackets es = filter is_bracket es
 
 -- the brackets form a word of the Dyck language
 abbrev pub Balanced : List Effect → Type 0

@@ -11,7 +11,7 @@ use Rattle.board.specs.Arrivals.{arrival_on}
 use Rattle.board.specs.Packing.{packed}
 use Rattle.board.specs.Checks.{check_answer}
 use Rattle.board.specs.Computing.{settled_log, recorded_reading}
-use Rattle.board.specs.Calls.{CallsKeep}
+use Rattle.board.specs.Calls.{CallsKeepSound}
 use Rattle.board.specs.Ease.{Eased, CallsEase}
 
 -- the log has a record from s to q that is no dearer than k
@@ -33,8 +33,8 @@ abbrev pub RecordedIsChecked : Meaning → Content → List Record → Type 0
 RecordedIsChecked m c log = (k : ℕ) (vs : List Move) → RecordedReading m c log k vs → check_answer m c (map packed vs) ≡ Ok k
 
 -- no complete reading costs less than the worst
-abbrev pub NoneBelow : Meaning → Content → Type 0
-NoneBelow m c = (vs : List Move) (x : ℕ) → Complete m c vs x → NoDearer m m.worst x
+abbrev pub NoReadingBelowWorst : Meaning → Content → Type 0
+NoReadingBelowWorst m c = (vs : List Move) (x : ℕ) → Complete m c vs x → NoDearer m m.worst x
 
 -- The records of a settled log are the least costs of their pairs.
 pub record RecordsAreLeast (m : Meaning) (c : Content) (log : List Record) : Type 0 where
@@ -62,7 +62,7 @@ pub record RecordedIsCheapest (m : Meaning) (c : Content) (log : List Record) : 
   -- every complete reading costs at least as much as the recorded one
   pub cheapest : (k n : ℕ) (vs ws : List Move) → RecordedReading m c log k vs → Complete m c ws n → NoDearer m k n
   -- there is no recorded reading exactly if every complete reading costs no less than the worst
-  pub none : HasNoReading m c log ↔ NoneBelow m c
+  pub none : HasNoReading m c log ↔ NoReadingBelowWorst m c
   -- there is one recorded reading at most
   pub single : (k n : ℕ) (vs ws : List Move) → RecordedReading m c log k vs → RecordedReading m c log n ws → (k ≡ n) × (vs ≡ ws)
   -- there is an answer
@@ -99,9 +99,9 @@ abbrev pub OneCost : Type 0
 OneCost = (m : Meaning) (c : Content) (vs : List Move) (k n : ℕ) → Complete m c vs k → Complete m c vs n → k ≡ n
 
 -- All that the board promises over contents, for every meaning.
-pub record HoldsOfEveryContent : Type 0 where
+pub record CallsKeepEaseAndSettle : Type 0 where
   -- the calls on a draft keep a content sound
-  pub kept : (m : Meaning) → CallsKeep m
+  pub kept : (m : Meaning) → CallsKeepSound m
   -- adding, and repricing no dearer, eases a content
   pub eased : (m : Meaning) → Lawful m → CallsEase m
   -- a sound content can be settled, and what then holds

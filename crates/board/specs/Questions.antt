@@ -7,7 +7,7 @@ use Rattle.board.specs.declared.refusal.Refusal.TheVariants.{NoReading, TooLong,
 use Rattle.board.specs.Content.{Content}
 use Rattle.board.specs.Packing.{packed}
 use Rattle.board.specs.Settling.{Record}
-use Rattle.board.specs.Computing.{record_between, ReadingFound, recorded_reading}
+use Rattle.board.specs.Computing.{record_between, Reading, recorded_reading}
 
 -- the cost of a pair's record, if it has one
 abbrev pub recorded_cost : Option Record → Result ℕ Refusal
@@ -20,7 +20,7 @@ between_answer c log s q =
     cond (nat_le (c.modes * c.moments) s || nat_le (c.modes * c.moments) q) (Err PlaceOut) (recorded_cost (record_between c log s q))
 
 -- a reading's cost and number of moves, the number standing at 65,536 where it is more
-abbrev pub cost_told : Option ReadingFound → Result (ℕ × ℕ) Refusal
+abbrev pub cost_told : Option Reading → Result (ℕ × ℕ) Refusal
 cost_told None = Err NoReading
 cost_told (Some f) = Ok (f.cost, min (length f.moves) many_moves)
 
@@ -29,16 +29,16 @@ abbrev pub cost_answer : Meaning → Content → List Record → Result (ℕ × 
 cost_answer m c log = cost_told (recorded_reading m c log)
 
 -- whether the reading's moves are no more than the buffer holds, and no more than 65,535
-abbrev pub fits : ReadingFound → List ℕ → Bool
+abbrev pub fits : Reading → List ℕ → Bool
 fits f buffer = nat_le (length f.moves) (length buffer) && nat_le (length f.moves) most_written
 
 -- what path answers: how many moves the recorded reading has, if it fits
-abbrev pub path_told : Option ReadingFound → List ℕ → Result ℕ Refusal
+abbrev pub path_told : Option Reading → List ℕ → Result ℕ Refusal
 path_told None buffer = Err NoReading
 path_told (Some f) buffer = cond (fits f buffer) (Ok (length f.moves)) (Err TooLong)
 
 -- what path makes of the buffer: the reading's moves in order, packed, and then what stood there
-abbrev pub path_written : Option ReadingFound → List ℕ → List ℕ
+abbrev pub path_written : Option Reading → List ℕ → List ℕ
 path_written None buffer = buffer
 path_written (Some f) buffer = cond (fits f buffer) (map packed f.moves ++ drop (length f.moves) buffer) buffer
 

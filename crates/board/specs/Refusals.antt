@@ -27,9 +27,9 @@ number TooDeep = 18
 number NoEnd = 19
 
 -- the first refusal whose reason applies
-abbrev pub first_fault : List (Bool × Refusal) → Option Refusal
-first_fault [] = None
-first_fault (r ∷ rs) = cond r.0 (Some r.1) (first_fault rs)
+abbrev pub first_refusal : List (Bool × Refusal) → Option Refusal
+first_refusal [] = None
+first_refusal (r ∷ rs) = cond r.0 (Some r.1) (first_refusal rs)
 
 -- what a call answers: x, or the refusal where there is one
 abbrev pub answer : {X : Type 0} → Option Refusal → X → Result X Refusal

@@ -116,7 +116,7 @@ Precedes m c x y = Cheaper m x.cost y.cost ⊎ ((x.cost ≡ y.cost) × Lex (key 
 -- if it is cheaper than the worst.
 pub record Round (m : Meaning) (c : Content) (log : List Record) (x : Record) : Type 0 where
   pub candidate : Candidate m c log x
-  pub unsettled : Unrecorded log x.from x.to
+  pub unrecorded : Unrecorded log x.from x.to
   pub below : Cheaper m x.cost m.worst
   pub first : (y : Record) → Candidate m c log y → Unrecorded log y.from y.to → Precedes m c x y
 

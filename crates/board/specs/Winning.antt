@@ -24,7 +24,7 @@ use Rattle.board.specs.Minima.{Link, StandsFor}
 -- Of the unsettled pairs below n that of the least cost, if it is below the worst; the first where some tie.
 pub record LeastPair (m : Meaning) (l : Log) (waiting : List ℕ) (n p : ℕ) : Type 0 where
   pub within : p < n
-  pub unsettled : slice_index_or l.index p None ≡ None
+  pub unrecorded : slice_index_or l.index p None ≡ None
   pub below : Cheaper m (slice_index waiting p) m.worst
   pub first : (q : ℕ) → q < n → slice_index_or l.index q None ≡ None → NoDearer m (slice_index waiting p) (slice_index waiting q) × ((slice_index waiting p ≡ slice_index waiting q) → p ≤ q)
 
@@ -80,32 +80,32 @@ abbrev pub Any : Derivation → Type 0
 Any d = Unit {0}
 
 -- a step by this move
-abbrev pub StepOf : Move → Derivation → Type 0
-StepOf v d = d ≡ by_step v
+abbrev pub IsStepOf : Move → Derivation → Type 0
+IsStepOf v d = d ≡ by_step v
 
 -- a step by this row
-abbrev pub StepsBy : ℕ → Derivation → Type 0
-StepsBy row d = (v : Move) × (v.row ≡ row) × (d ≡ by_step v)
+abbrev pub IsStepBy : ℕ → Derivation → Type 0
+IsStepBy row d = (v : Move) × (v.row ≡ row) × (d ≡ by_step v)
 
 -- any step
-abbrev pub Steps : Derivation → Type 0
-Steps d = (v : Move) × (d ≡ by_step v)
+abbrev pub IsStep : Derivation → Type 0
+IsStep d = (v : Move) × (d ≡ by_step v)
 
 -- a call by these rows, opened at this moment
-abbrev pub CallAt : ℕ → ℕ → ℕ → Derivation → Type 0
-CallAt o w t d = d ≡ by_call o w t
+abbrev pub IsCallAt : ℕ → ℕ → ℕ → Derivation → Type 0
+IsCallAt o w t d = d ≡ by_call o w t
 
 -- a call by these rows
-abbrev pub CallsBy : ℕ → ℕ → Derivation → Type 0
-CallsBy o w d = (t : ℕ) × (d ≡ by_call o w t)
+abbrev pub IsCallBy : ℕ → ℕ → Derivation → Type 0
+IsCallBy o w d = (t : ℕ) × (d ≡ by_call o w t)
 
 -- a call that this row opens
-abbrev pub CallsOpened : ℕ → Derivation → Type 0
-CallsOpened o d = (w : ℕ) × CallsBy o w d
+abbrev pub IsCallOpenedBy : ℕ → Derivation → Type 0
+IsCallOpenedBy o d = (w : ℕ) × IsCallBy o w d
 
 -- any call
-abbrev pub Calls : Derivation → Type 0
-Calls d = (o : ℕ) × CallsOpened o d
+abbrev pub IsCall : Derivation → Type 0
+IsCall d = (o : ℕ) × IsCallOpenedBy o d
 
 -- The list holds numbers below n in ascending order, each of P among them.
 pub record Gathered (P : ℕ → Type 0) (n : ℕ) (xs : List ℕ) : Type 0 where

@@ -16,5 +16,8 @@ pub(crate) const LINES: usize = 128;
 // Brackets that a check keeps open at once, at most.
 pub(crate) const OPEN_BRACKETS: usize = 4096;
 
-// The number of moves that stands for itself and for every greater one. A path is written only where it has fewer.
+// The number of moves that stands for itself and for every greater one.
 pub(crate) const MANY_MOVES: u32 = 65_536;
+
+// Moves that path writes, at most.
+pub(crate) const MOST_WRITTEN: usize = 65_535;

@@ -15,7 +15,7 @@ use costs::Kind;
 
 // The brackets that are open, the last one last.
 #[derive(Drop)]
-pub(crate) struct Brackets {
+pub(crate) struct OpenBrackets {
     open: ArrayVec<u8, OPEN_BRACKETS>,
 }
 
@@ -24,7 +24,7 @@ pub(crate) struct Brackets {
 #[derive(Drop)]
 pub(crate) struct Checker {
     place: Place,
-    brackets: Brackets,
+    brackets: OpenBrackets,
     ended: bool,
     cost: u32,
 }
@@ -38,12 +38,12 @@ impl Effect {
     }
 }
 
-impl Brackets {
+impl OpenBrackets {
     // None open.
-    pub(crate) fn new() -> Brackets
+    pub(crate) fn new() -> OpenBrackets
         ensures { unclosed_of result ≡ [] }
     {
-        Brackets {
+        OpenBrackets {
             open: ArrayVec::new(),
         }
     }
@@ -82,7 +82,7 @@ impl Checker {
     {
         Checker {
             place: (0, 0),
-            brackets: Brackets::new(),
+            brackets: OpenBrackets::new(),
             ended: false,
             cost: K::free(),
         }

@@ -4,7 +4,7 @@ ghost use Rattle.board.specs.Refusals.{answer};
 ghost use Rattle.board.specs.Content.{new, Sound};
 ghost use Rattle.board.specs.Calls.{size_fault, size_after, row_fault, row_after, line_fault, line_after, reprice_fault, reprice_row_after, reprice_line_after, without_lines};
 ghost use Rattle.board.specs.Held.{draft_content};
-ghost use Rattle.board.specs.Promises.{HoldsOfEveryContent};
+ghost use Rattle.board.specs.Promises.{CallsKeepEaseAndSettle};
 
 use crate::bounds::PLACES;
 use crate::refusal::Refusal;
@@ -23,7 +23,7 @@ impl<K: Kind> Draft<K> {
     pub fn new() -> Draft<K>
         ensures content { draft_content result ≡ new }
         ensures sound { Sound K.meaning (draft_content result) }
-        ensures promises { HoldsOfEveryContent }
+        ensures promises { CallsKeepEaseAndSettle }
     {
         Draft {
             tables: Tables::new(),

@@ -42,15 +42,6 @@ pub(crate) struct Minima {
     leads: [bool; ROWS],
 }
 
-// The log so far and the least costs. The tables are lent to each call. (What holds of both together stays a clause, `state`,
-// of the methods: it holds data that the next call needs, and a ghost field must be a proposition, or be squashed into one
-// that gives no data back.)
-#[derive(Drop)]
-pub(crate) struct Settling {
-    log: Log,
-    minima: Minima,
-}
-
 // The tables and the log so far. (The least costs are lent apart from them, as they alone change. That a record is within
 // the log stays a clause of what uses it, since a number is within one log only.)
 #[derive(Drop)]

@@ -1,6 +1,6 @@
 -- Joining a list of numbers under a kind.
-use Rattle.std.specs.Prelude.{◌≡◌, ℕ, suc, cond, List, [], ◌∷◌, ◌++◌, Some, None, Ok, Err, Option, Result}
-use Rattle.std.specs.List.{AllByRecursion, fold}
+use Rattle.std.specs.Prelude.{◌≡◌, ℕ, List, ◌++◌, Some, None, Ok, Err, Option, Result, not}
+use Rattle.std.specs.List.{AllByRecursion, fold, position_from}
 use Rattle.costs.specs.Meaning.{Meaning, Cost}
 
 -- each number of the list is a cost
@@ -16,18 +16,17 @@ abbrev pub joined : Meaning → List ℕ → ℕ
 joined m xs = joined_onto m m.free xs
 
 -- the index of the first number that is no cost, counted from i
-abbrev pub no_cost_from : Meaning → ℕ → List ℕ → Option ℕ
-no_cost_from m i [] = None
-no_cost_from m i (x ∷ xs) = cond (m.is_cost x) (no_cost_from m (suc i) xs) (Some i)
+abbrev pub not_a_cost_from : Meaning → ℕ → List ℕ → Option ℕ
+not_a_cost_from m i xs = position_from (λ x. not (m.is_cost x)) i xs
 
 -- the joined cost, unless some number of the list is no cost
-abbrev pub unless_no_cost : Option ℕ → ℕ → Result ℕ ℕ
-unless_no_cost None k = Ok k
-unless_no_cost (Some i) k = Err i
+abbrev pub unless_not_a_cost : Option ℕ → ℕ → Result ℕ ℕ
+unless_not_a_cost None k = Ok k
+unless_not_a_cost (Some i) k = Err i
 
 -- what joining a list answers: its joined cost, or the index of the first number that is no cost
 abbrev pub join_answer : Meaning → List ℕ → Result ℕ ℕ
-join_answer m xs = unless_no_cost (no_cost_from m 0 xs) (joined m xs)
+join_answer m xs = unless_not_a_cost (not_a_cost_from m 0 xs) (joined m xs)
 
 -- a list cut anywhere: the two parts' totals joined are the whole's
 abbrev pub CutAnywhere : Meaning → Type 0

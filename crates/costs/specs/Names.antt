@@ -18,10 +18,10 @@ abbrev pub letter_of : KindName → ℕ
 letter_of k = (meaning_of k).letter
 
 -- the name of the kind that has the letter
-abbrev pub named_by : ℕ → Option KindName
-named_by l =
+abbrev pub kind_by_letter : ℕ → Option KindName
+kind_by_letter l =
     cond (l == points.letter) (Some name.Points) (cond (l == severity.letter) (Some name.Severity) (cond (l == rank.letter) (Some name.Rank) None))
 
 -- the name of the kind that has the letter, or the letter back where no kind has it
-abbrev pub named_under : ℕ → Result KindName UnknownLetter
-named_under l = ok_or (named_by l) (record { 0 = l })
+abbrev pub kind_under_letter : ℕ → Result KindName UnknownLetter
+kind_under_letter l = ok_or (kind_by_letter l) (record { 0 = l })

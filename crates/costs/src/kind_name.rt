@@ -2,7 +2,7 @@
 ghost use Rattle.std.specs.Prelude.{◌≡◌, ◌++◌, Some, codes};
 ghost use Rattle.std.proofs.Common.{rules};
 ghost use Rattle.std.proofs.Math.Utf8.{encode};
-ghost use Rattle.costs.specs.Names.{letter_of, named_by, named_under};
+ghost use Rattle.costs.specs.Names.{letter_of, kind_by_letter, kind_under_letter};
 
 use crate::kind::Kind;
 use crate::points::Points;
@@ -31,7 +31,7 @@ impl KindName {
     // The kind's letter. (An arm for each: a kind is a type.)
     pub fn letter(self) -> char
         ensures value { result ≡ letter_of self }
-        ensures reads_back { named_by result ≡ Some self }
+        ensures reads_back { kind_by_letter result ≡ Some self }
     {
         match self {
             KindName::Points => Points::letter(),
@@ -45,7 +45,7 @@ impl KindName {
 impl TryFrom<char> for KindName {
     type Error = UnknownLetter;
 
-    ghost try_from_gives = { λ letter result. result ≡ named_under letter };
+    ghost try_from_gives = { λ letter result. result ≡ kind_under_letter letter };
 
     fn try_from(letter: char) -> Result<Self, UnknownLetter> {
         match letter {

@@ -11,24 +11,24 @@ use Rattle.board.specs.Refusals.{answer as refused_or}
 use Rattle.board.specs.Ease.{Eased, CallsEase}
 use Rattle.board.specs.Packing.{packed}
 use Rattle.board.specs.Settling.{RecordedReading, HasNoReading, AnswersCost}
-use Rattle.board.specs.Computing.{ReadingFound, recorded_reading, settled_log}
+use Rattle.board.specs.Computing.{Reading, recorded_reading, settled_log}
 use Rattle.board.specs.Questions.{cost_told, path_told, path_written}
-use Rattle.board.specs.Promises.{HoldsOfEveryContent, RecordedIsCheapest, Computed, NoneBelow}
+use Rattle.board.specs.Promises.{CallsKeepEaseAndSettle, RecordedIsCheapest, Computed, NoReadingBelowWorst}
 use Rattle.file.specs.declared.call.Call.{Call}
 use Rattle.file.specs.declared.call.Call.TheVariants as call
-use Rattle.file.specs.States.{State, draft, settled, content, on_draft, stepped, state_from, state_after}
-use Rattle.file.specs.Answers.{draft_answer, number_of, refused_with}
+use Rattle.file.specs.States.{State, draft, settled, on_draft, stepped, state_from, state_after}
+use Rattle.file.specs.Answers.{draft_answer, error_number, refused_with}
 use Rattle.file.specs.Easing.{is_load, Question, cost, Eases, adds_row, adds_line, reprices_row, reprices_line, settles, reopens, asks, declined, AllEase, none, next}
 use Rattle.file.specs.Promise.{settled_cost, cost_or_worst, answered_cost, Writes, written, AnsweredReading, AnswersCheapest, AnswersCheapestWhenSettled}
 use Rattle.file.specs.Promise as promise
-use Rattle.file.proofs.Calls.Sounding.{stepped_sound, state_sound}
+use Rattle.file.proofs.Calls.Sounding.{content, stepped_sound, state_sound}
 
 -- a list of calls in two parts
 pub state_split : (m : Meaning) (s : State) (xs ys : List Call) → state_from m s (xs ++ ys) ≡ state_from m (state_from m s xs) ys
 state_split m s [] ys = refl
 state_split m s (x ∷ xs) ys = state_split m (stepped m s x) xs ys
 
-module _ {m : Meaning} (laws : Lawful m) (promises : HoldsOfEveryContent) where
+module _ {m : Meaning} (laws : Lawful m) (promises : CallsKeepEaseAndSettle) where
   -- what is known of a sound content's records
   module _ (c : Content) (sound : Sound m c) where
     computed : Computed m c
@@ -37,23 +37,23 @@ module _ {m : Meaning} (laws : Lawful m) (promises : HoldsOfEveryContent) where
     cheapest : RecordedIsCheapest m c (settled_log m c)
     cheapest = ((promises.settling m c laws sound).1 (settled_log m c) computed.settled).1
 
-    recorded : (f : ReadingFound) → recorded_reading m c (settled_log m c) ≡ Some f → RecordedReading m c (settled_log m c) f.cost f.moves
+    recorded : (f : Reading) → recorded_reading m c (settled_log m c) ≡ Some f → RecordedReading m c (settled_log m c) f.cost f.moves
     recorded f e = (computed.some (settled_log m c) computed.settled f.cost f.moves).1 (f.row, e)
 
     unread : recorded_reading m c (settled_log m c) ≡ None → HasNoReading m c (settled_log m c)
     unread e = (computed.none (settled_log m c) computed.settled).1 e
 
     -- path by whether the reading fits
-    writes : (f : ReadingFound) (buffer : List ℕ) (short few : Bool) → leb (length f.moves) (length buffer) ≡ short → leb (length f.moves) 65535 ≡ few → Writes f.moves buffer (cond (short && few) (Ok (length f.moves)) (Err TooLong)) (cond (short && few) (map packed f.moves ++ drop (length f.moves) buffer) buffer)
+    writes : (f : Reading) (buffer : List ℕ) (short few : Bool) → leb (length f.moves) (length buffer) ≡ short → leb (length f.moves) 65535 ≡ few → Writes f.moves buffer (cond (short && few) (Ok (length f.moves)) (Err TooLong)) (cond (short && few) (map packed f.moves ++ drop (length f.moves) buffer) buffer)
     writes f buffer true true h k = written (leb-true _ _ h) (leb-true _ _ k)
     writes f buffer true false h k = promise.declined (inr (leb-false _ _ k))
     writes f buffer false true h k = promise.declined (inl (leb-false _ _ h))
     writes f buffer false false h k = promise.declined (inl (leb-false _ _ h))
 
-    written_so : (f : ReadingFound) (buffer : List ℕ) → recorded_reading m c (settled_log m c) ≡ Some f → Writes f.moves buffer (path_told (recorded_reading m c (settled_log m c)) buffer) (path_written (recorded_reading m c (settled_log m c)) buffer)
-    written_so f buffer e = subst (λ (o : Option ReadingFound). Writes f.moves buffer (path_told o buffer) (path_written o buffer)) (sym e) (writes f buffer _ _ refl refl)
+    written_so : (f : Reading) (buffer : List ℕ) → recorded_reading m c (settled_log m c) ≡ Some f → Writes f.moves buffer (path_told (recorded_reading m c (settled_log m c)) buffer) (path_written (recorded_reading m c (settled_log m c)) buffer)
+    written_so f buffer e = subst (λ (o : Option Reading). Writes f.moves buffer (path_told o buffer) (path_written o buffer)) (sym e) (writes f buffer _ _ refl refl)
 
-    reading_of : (f : ReadingFound) → recorded_reading m c (settled_log m c) ≡ Some f → AnsweredReading m c f.cost (min (length f.moves) 65536)
+    reading_of : (f : Reading) → recorded_reading m c (settled_log m c) ≡ Some f → AnsweredReading m c f.cost (min (length f.moves) 65536)
     reading_of f e =
         let r = recorded f e in
         record {
@@ -66,23 +66,23 @@ module _ {m : Meaning} (laws : Lawful m) (promises : HoldsOfEveryContent) where
           cheapest = λ other x h. cheapest.cheapest f.cost x f.moves other r h;
         }
 
-    reading : (o : Option ReadingFound) → recorded_reading m c (settled_log m c) ≡ o → (k n : ℕ) → cost_told o ≡ Ok (k, n) → AnsweredReading m c k n
+    reading : (o : Option Reading) → recorded_reading m c (settled_log m c) ≡ o → (k n : ℕ) → cost_told o ≡ Ok (k, n) → AnsweredReading m c k n
     reading None e k n h = absurd cc
     reading (Some f) e k n h =
         let same : (f.cost, min (length f.moves) 65536) ≡ (k, n) = cc in
         subst (λ (p : ℕ × ℕ). AnsweredReading m c p.0 p.1) same (reading_of f e)
 
-    none_found : (o : Option ReadingFound) → recorded_reading m c (settled_log m c) ≡ o → cost_told o ≡ Err NoReading → recorded_reading m c (settled_log m c) ≡ None
+    none_found : (o : Option Reading) → recorded_reading m c (settled_log m c) ≡ o → cost_told o ≡ Err NoReading → recorded_reading m c (settled_log m c) ≡ None
     none_found None e h = e
     none_found (Some f) e h = absurd cc
 
-    none_below : (settled_cost m c ≡ Err NoReading) ↔ NoneBelow m c
+    none_below : (settled_cost m c ≡ Err NoReading) ↔ NoReadingBelowWorst m c
     none_below = (
       (λ h. cheapest.none.0 (unread (none_found _ refl h))),
       λ h. ap cost_told ((computed.none (settled_log m c) computed.settled).0 (cheapest.none.1 h)),
     )
 
-    answer : (o : Option ReadingFound) → recorded_reading m c (settled_log m c) ≡ o → AnswersCost m c (settled_log m c) (cost_or_worst m (cost_told o))
+    answer : (o : Option Reading) → recorded_reading m c (settled_log m c) ≡ o → AnswersCost m c (settled_log m c) (cost_or_worst m (cost_told o))
     answer None e = inr (unread e, refl)
     answer (Some f) e = inl (f.moves, recorded f e)
 
@@ -93,7 +93,7 @@ module _ {m : Meaning} (laws : Lawful m) (promises : HoldsOfEveryContent) where
   unless_eased c done None h e = e
   unless_eased c done (Some r) h e = ease.same c h
 
-  unless_same : {X : Type 0} (o : Option Refusal) (x : X) (done c : Content) (n : ℕ) → number_of number (refused_or o x) ≡ Some n → unless o done c ≡ c
+  unless_same : {X : Type 0} (o : Option Refusal) (x : X) (done c : Content) (n : ℕ) → error_number number (refused_or o x) ≡ Some n → unless o done c ≡ c
   unless_same None x done c n e = absurd cc
   unless_same (Some r) x done c n e = refl
 

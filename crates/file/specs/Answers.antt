@@ -1,5 +1,7 @@
 -- What each call answers, and what it leaves of the buffer.
 use Rattle.std.specs.Prelude.{◌≡◌, ℕ, List, [], ◌∷◌, take, drop, length, Some, None, Ok, Err, Option, Result}
+use Rattle.std.specs.Option.{option_map}
+use Rattle.std.specs.Result.{result_err, result_map_both}
 use Rattle.costs.specs.Meaning.{Meaning}
 use Rattle.board.specs.declared.check.Fault.{Fault}
 use Rattle.board.specs.Refusals.{number, answer}
@@ -14,19 +16,18 @@ use Rattle.file.specs.declared.call.Answer.{Answer}
 use Rattle.file.specs.declared.call.Answer.TheVariants as answer
 use Rattle.file.specs.declared.call.NoteSpan.{NoteSpan}
 use Rattle.file.specs.declared.refusal.LoadFault.{LoadFault}
-use Rattle.file.specs.Parts.{Piece}
+use Rattle.file.specs.Parts.{PartRead}
 use Rattle.file.specs.Refusals.{file_number}
 use Rattle.file.specs.Load.{load_answer}
 use Rattle.file.specs.States.{State, draft, settled}
 
 -- where a note stands in its file, and how many bytes it has
-abbrev pub span : Piece → NoteSpan
+abbrev pub span : PartRead → NoteSpan
 span p = record { place = p.place; length = length p.bytes }
 
 -- the same of a load's answer
-abbrev pub spanned : Result Piece LoadFault → Result NoteSpan LoadFault
-spanned (Ok p) = Ok (span p)
-spanned (Err e) = Err e
+abbrev pub spanned : Result PartRead LoadFault → Result NoteSpan LoadFault
+spanned r = result_map_both span (λ e. e) r
 
 -- what stands in a file at that place, so many bytes long
 abbrev pub bytes_at : NoteSpan → List ℕ → List ℕ
@@ -80,20 +81,19 @@ step_buffer m (draft c) log x buffer = buffer
 step_buffer m (settled c) log x buffer = settled_buffer m c log x buffer
 
 -- the number of the error, where there is one
-abbrev pub number_of : {X E : Type 0} → (E → ℕ) → Result X E → Option ℕ
-number_of f (Ok x) = None
-number_of f (Err e) = Some (f e)
+abbrev pub error_number : {X E : Type 0} → (E → ℕ) → Result X E → Option ℕ
+error_number f r = option_map f (result_err r)
 
 -- The number of the refusal that an answer holds, if it holds one.
 abbrev pub refused_with : Answer → Option ℕ
-refused_with (answer.Sized r) = number_of number r
-refused_with (answer.Added r) = number_of number r
-refused_with (answer.Repriced r) = number_of number r
-refused_with (answer.Loaded r) = number_of (λ (f : LoadFault). file_number f.refusal) r
-refused_with (answer.Cost r) = number_of number r
-refused_with (answer.Path r) = number_of number r
-refused_with (answer.Between r) = number_of number r
-refused_with (answer.Checked r) = number_of (λ (f : Fault). number f.refusal) r
+refused_with (answer.Sized r) = error_number number r
+refused_with (answer.Added r) = error_number number r
+refused_with (answer.Repriced r) = error_number number r
+refused_with (answer.Loaded r) = error_number (λ (f : LoadFault). file_number f.refusal) r
+refused_with (answer.Cost r) = error_number number r
+refused_with (answer.Path r) = error_number number r
+refused_with (answer.Between r) = error_number number r
+refused_with (answer.Checked r) = error_number (λ (f : Fault). number f.refusal) r
 refused_with a = None
 
 -- The numbers of the refusals that each call can give; settle, reopen and clear give none.

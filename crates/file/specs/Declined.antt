@@ -1,6 +1,7 @@
 -- Why a load is declined, told from the layout: what the file describes before the part at fault, and the rule that this part
 -- breaks.
 use Rattle.std.specs.Prelude.{◌≡◌, ℕ, ◌<◌, Bool, false, cond, not, ◌||◌, ◌↔◌, List, [], ◌∷◌, ◌++◌, length, Some, None, Err, Option, Result, ◌==◌, nat_lt}
+use Rattle.std.specs.Option.{option_map}
 use Rattle.costs.specs.Meaning.{Meaning}
 use Rattle.board.specs.declared.refusal.Refusal.{Refusal}
 use Rattle.board.specs.declared.row.Row.{Row}
@@ -11,7 +12,7 @@ use Rattle.file.specs.declared.refusal.FileRefusal.{FileRefusal}
 use Rattle.file.specs.declared.refusal.FileRefusal.TheVariants.{CutShort, WrongLetter, NotZero, WrongTrust, WrongSection, Board}
 use Rattle.file.specs.declared.refusal.LoadFault.{LoadFault}
 use Rattle.file.specs.Fields.{field, word4, word8, header_fields, head_code, row_fields, line_fields}
-use Rattle.file.specs.Parts.{Piece}
+use Rattle.file.specs.Parts.{PartRead}
 use Rattle.file.specs.Sections.{rows_code, lines_code, note_code}
 use Rattle.file.specs.Records.{trusted_line}
 use Rattle.file.specs.Layout.{Description, held_in, row_bytes, line_bytes, one_byte, section_begun, section_written, header_written, written, KeepsLimits, content_of}
@@ -47,8 +48,7 @@ Stands m (at_note d n) = KeepsLimits m d × (d.note ≡ None) × (n < 4096)
 
 -- the board's refusal, as one of the file's
 abbrev pub by_board : Option Refusal → Option FileRefusal
-by_board None = None
-by_board (Some e) = Some (Board e)
+by_board e = option_map Board e
 
 -- the first of a part's own rules that is broken, and if none is, what the board declines
 abbrev pub first_broken : List (Bool × FileRefusal) → Option Refusal → Option FileRefusal
@@ -113,5 +113,5 @@ pub record Declined (m : Meaning) (bytes : List ℕ) (f : LoadFault) : Type 0 wh
   pub broken : part_fault m due rest ≡ Some f.refusal
 
 -- A load declines, with a fault, exactly the files that break that rule at that place, and none before it.
-abbrev pub DeclinesExactly : Meaning → List ℕ → Result Piece LoadFault → Type 0
+abbrev pub DeclinesExactly : Meaning → List ℕ → Result PartRead LoadFault → Type 0
 DeclinesExactly m bytes answer = (f : LoadFault) → (answer ≡ Err f) ↔ Declined m bytes f

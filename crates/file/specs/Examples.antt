@@ -1,8 +1,9 @@
 -- Worked examples of the layout, of trust and of a load.
-use Rattle.std.specs.Prelude.{◌≡◌, ℕ, List, [], ◌∷◌, Some, None, Ok, Err}
+use Rattle.std.specs.Prelude.{◌≡◌, ℕ, List, [], ◌∷◌, Some, None, Ok, Err, slice_index_or}
 use Rattle.costs.specs.Kinds.{points, severity}
-use Rattle.board.specs.declared.row.RowKind.TheVariants.{Plain, End}
+use Rattle.board.specs.declared.row.RowKind.TheVariants.{End}
 use Rattle.board.specs.declared.row.Row.{Row}
+use Rattle.board.specs.Examples.{flight}
 use Rattle.file.specs.declared.refusal.FileRefusal.TheVariants.{CutShort, WrongLetter, WrongSection}
 use Rattle.file.specs.Trust.{trusted}
 use Rattle.file.specs.Fields.{header_read, row_read}
@@ -10,13 +11,13 @@ use Rattle.file.specs.Parts.{fault_at}
 use Rattle.file.specs.Load.{loaded, load_answer}
 use Rattle.file.specs.Layout.{Description, header_word, row_word, written}
 
--- a plain row from mode 1 to mode 1, of event 1, action 7 and cost 4
-abbrev pub plain_row : Row
-plain_row = record { kind = Plain; from = 1; to = 1; label = 1; action = 7; cost = 4 }
-
 -- an end row at mode 0
 abbrev pub end_row : Row
 end_row = record { kind = End; from = 0; to = 0; label = 0; action = 0; cost = 0 }
+
+-- row 1 of the worked flight: plain, from mode 1 to mode 1, of event 1, action 7 and cost 4
+abbrev pub plain_row : Row
+plain_row = slice_index_or flight.rows 1 end_row
 
 -- one mode, one moment, an end row, no section of lines, and the note 'hi'
 abbrev pub small : Description

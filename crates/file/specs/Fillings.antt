@@ -10,7 +10,7 @@ use Rattle.file.specs.declared.reader.Stage.{Stage}
 use Rattle.file.specs.declared.reader.Stage.TheVariants as stage
 use Rattle.file.specs.declared.part.Part.{Part}
 use Rattle.file.specs.declared.filling.Filling.{Filling}
-use Rattle.file.specs.Parts.{Piece, piece}
+use Rattle.file.specs.Parts.{PartRead, part_read}
 use Rattle.file.specs.Load.{Loaded, Opened, at_end, from_lines, from_note, from_rows, loaded_as}
 
 -- an answer together with what stands after it; a refusal leaves that out
@@ -20,10 +20,10 @@ told (Err e) y = Err e
 
 -- a board that is being filled, and the note so far
 abbrev pub so_far : {K : Type 0} {k : Ghosts K} → Filling K k → Loaded
-so_far f = loaded_as (draft_content f.draft.now) (piece f.note)
+so_far f = loaded_as (draft_content f.draft.now) (part_read f.note)
 
 -- the sections that may come at each stage
-abbrev pub from_stage : Meaning → ℕ → Stage → Piece → Loaded → Result Loaded LoadFault
+abbrev pub from_stage : Meaning → ℕ → Stage → PartRead → Loaded → Result Loaded LoadFault
 from_stage m trust stage.Rows = from_rows m trust
 from_stage m trust stage.Lines = from_lines m trust
 from_stage m trust stage.Note = from_note m trust
@@ -36,5 +36,5 @@ told_trust (Err e) c = Err e
 
 -- an answered note together with the content that stands then; a fault leaves that out
 abbrev pub told_note : Result Part LoadFault → Content → Result Loaded LoadFault
-told_note (Ok p) c = Ok (loaded_as c (piece p))
+told_note (Ok p) c = Ok (loaded_as c (part_read p))
 told_note (Err e) c = Err e

@@ -35,13 +35,13 @@ records_defined (board.Drafted d) = refl
 records_defined (board.Settled s) = settled_defined s
 
 -- The board is what these calls make of a new one: it stands in their state.
-abbrev pub Holds : {K : Type 0} {k : Ghosts K} → Meaning → List Call → Board K k → Type 0
-Holds m calls b = state_of b ≡ state_after m calls
+abbrev pub MadeBy : {K : Type 0} {k : Ghosts K} → Meaning → List Call → Board K k → Type 0
+MadeBy m calls b = state_of b ≡ state_after m calls
 
 -- One call more after a history: the board is what all these calls make of a new one, with exactly the defined records, the
 -- answer and the buffer are the defined ones, and the main promise holds of the whole list.
-pub record Follows {K : Type 0} {k : Ghosts K} (m : Meaning) (calls : List Call) (x : Call) (buffer : List ℕ) (after : Board K k) (told : Answer) (left : List ℕ) : Type 0 where
-  pub holds : Holds m (calls ++ (x ∷ [])) after
+pub record OneCallMore {K : Type 0} {k : Ghosts K} (m : Meaning) (calls : List Call) (x : Call) (buffer : List ℕ) (after : Board K k) (told : Answer) (left : List ℕ) : Type 0 where
+  pub holds : MadeBy m (calls ++ (x ∷ [])) after
   pub records : records_of after ≡ defined_records m (state_after m (calls ++ (x ∷ [])))
   pub answered : told ≡ step_answer m (state_after m calls) (defined_records m (state_after m calls)) x buffer
   pub written : left ≡ step_buffer m (state_after m calls) (defined_records m (state_after m calls)) x buffer

@@ -10,7 +10,7 @@ use Rattle.board.specs.Rows.{kind_number, formed}
 use Rattle.board.specs.Content.{Content}
 use Rattle.file.specs.declared.refusal.LoadFault.{LoadFault}
 use Rattle.file.specs.Trust.{trusted}
-use Rattle.file.specs.Parts.{Piece}
+use Rattle.file.specs.Parts.{PartRead}
 use Rattle.file.specs.Sections.{rows_code, lines_code, note_code}
 use Rattle.file.specs.Records.{trusted_line}
 
@@ -155,15 +155,15 @@ content_of m d =
     }
 
 -- the note of a file of so many bytes, which ends it; without one an empty part at the file's end
-abbrev pub note_at_end : Option (List ℕ) → ℕ → Piece
+abbrev pub note_at_end : Option (List ℕ) → ℕ → PartRead
 note_at_end None size = record { bytes = []; place = size }
 note_at_end (Some bs) size = record { bytes = bs; place = size - length bs }
 
-abbrev pub note_of : Description → Piece
+abbrev pub note_of : Description → PartRead
 note_of d = note_at_end d.note (length (written d))
 
 -- A description whose bytes these are, that keeps the limits, and whose content and note these are.
-pub record Described (m : Meaning) (bytes : List ℕ) (c : Content) (n : Piece) : Type 0 where
+pub record Described (m : Meaning) (bytes : List ℕ) (c : Content) (n : PartRead) : Type 0 where
   pub description : Description
   pub laid_out : written description ≡ bytes
   pub keeps : KeepsLimits m description
@@ -172,5 +172,5 @@ pub record Described (m : Meaning) (bytes : List ℕ) (c : Content) (n : Piece) 
 
 -- A load accepts, with a content and a note, exactly the files that are a description within the limits with that
 -- content and that note.
-abbrev pub LoadsExactly : Meaning → List ℕ → Result Piece LoadFault → Content → Type 0
-LoadsExactly m bytes answer after = (c : Content) (n : Piece) → ((answer ≡ Ok n) × (after ≡ c)) ↔ Described m bytes c n
+abbrev pub LoadsExactly : Meaning → List ℕ → Result PartRead LoadFault → Content → Type 0
+LoadsExactly m bytes answer after = (c : Content) (n : PartRead) → ((answer ≡ Ok n) × (after ≡ c)) ↔ Described m bytes c n

@@ -13,8 +13,8 @@ pub mod Promise
 pub mod Histories
 pub mod Laws
 -- Executable twins, which read a file from its front: a load accepts and makes what Layout describes, by `LoadsExactly` there,
--- and is declined as Declined says, by `DeclinesExactly` there. (Of them Declined names a word's fields, the codes of sections
--- and a line at its trusted cost.)
+-- and is declined as Declined says, by `DeclinesExactly` there. (Of them Declined names a word's fields, and Declined
+-- and Layout name the codes of sections and a line at its trusted cost.)
 pub mod Fields
 pub mod Sections
 pub mod Records

@@ -11,7 +11,7 @@ use Rattle.board.specs.Packing.{packed}
 use Rattle.board.specs.Checks.{check_answer}
 use Rattle.board.specs.Settling.{RecordedReading}
 use Rattle.board.specs.Computing.{settled_log}
-use Rattle.board.specs.Promises.{NoneBelow}
+use Rattle.board.specs.Promises.{NoReadingBelowWorst}
 use Rattle.board.specs.Questions.{cost_answer, path_answer, path_after}
 use Rattle.file.specs.declared.call.Call.{Call}
 use Rattle.file.specs.States.{settled, state_after}
@@ -65,7 +65,7 @@ pub record AnswersCheapest (m : Meaning) (calls : List Call) (c : Content) : Typ
   -- if a cost is answered, the cheapest complete reading stands behind it
   pub answered : (k n : ℕ) → settled_cost m c ≡ Ok (k, n) → AnsweredReading m c k n
   -- no cost is answered exactly when no complete reading costs less than the worst
-  pub none_below_worst : (settled_cost m c ≡ Err NoReading) ↔ NoneBelow m c
+  pub none_below_worst : (settled_cost m c ≡ Err NoReading) ↔ NoReadingBelowWorst m c
   -- if since an earlier time when it stood settled each call was one that eases, the answer is no dearer than then
   pub no_dearer_since : (before after : List Call) (c₀ : Content) → calls ≡ before ++ after → state_after m before ≡ settled c₀ → AllEase m (settled c₀) after → NoDearer m (answered_cost m c) (answered_cost m c₀)
 

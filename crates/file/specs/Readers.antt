@@ -1,7 +1,9 @@
 -- What a reader of a file keeps and answers, section by section.
 use Rattle.std.specs.Prelude.{ℕ, Bool, false, cond, ◌||◌, length, Some, None, Ok, Err, Option, Result, ◌==◌, nat_lt}
+use Rattle.std.specs.Option.{option_map}
+use Rattle.std.specs.Result.{result_map_both}
 use Rattle.file.specs.declared.unread.Unread.{Unread}
-use Rattle.file.specs.Parts.{Piece, fault_at}
+use Rattle.file.specs.Parts.{PartRead, fault_at}
 use Rattle.file.specs.declared.refusal.FileRefusal.{FileRefusal}
 use Rattle.file.specs.declared.refusal.FileRefusal.TheVariants.{CutShort, WrongSection}
 use Rattle.file.specs.declared.refusal.LoadFault.{LoadFault}
@@ -13,10 +15,10 @@ use Rattle.file.specs.declared.reader.Reader.{Reader}
 use Rattle.file.specs.declared.reader.Stage.{Stage}
 use Rattle.file.specs.declared.reader.Stage.TheVariants as stage
 use Rattle.file.specs.Fields.{head_code}
-use Rattle.file.specs.Sections.{Found, lines_code, next_section, note_code, past, rows_code}
+use Rattle.file.specs.Sections.{SectionRead, lines_code, next_section, note_code, past, rows_code}
 
 -- those of what is still to be read
-abbrev pub unread : Unread → Piece
+abbrev pub unread : Unread → PartRead
 unread u = record { bytes = u.bytes.now; place = u.place }
 
 -- the code of each kind of section
@@ -31,27 +33,24 @@ kind_of_code code =
     cond (code == rows_code) (Ok Rows) (cond (code == lines_code) (Ok Lines) (cond (code == note_code) (Ok Note) (Err WrongSection)))
 
 -- the section of that kind, part and count
-abbrev pub section_of : SectionKind → Unread → ℕ → Found
+abbrev pub section_of : SectionKind → Unread → ℕ → SectionRead
 section_of kind part count = record { code = section_code kind; part = unread part; count = count }
 
 -- what the code's section stands for, and the same of answers
-abbrev pub found_section : Section → Found
-found_section (SomeRows part count) = section_of Rows part count
-found_section (SomeLines part count) = section_of Lines part count
-found_section (ANote part count) = section_of Note part count
+abbrev pub section_read : Section → SectionRead
+section_read (SomeRows part count) = section_of Rows part count
+section_read (SomeLines part count) = section_of Lines part count
+section_read (ANote part count) = section_of Note part count
 
-abbrev pub found_read : Result Section FileRefusal → Result Found FileRefusal
-found_read (Ok s) = Ok (found_section s)
-found_read (Err e) = Err e
+abbrev pub section_result : Result Section FileRefusal → Result SectionRead FileRefusal
+section_result r = result_map_both section_read (λ e. e) r
 
-abbrev pub found_next : Result (Option Section) LoadFault → Result (Option Found) LoadFault
-found_next (Ok None) = Ok None
-found_next (Ok (Some s)) = Ok (Some (found_section s))
-found_next (Err e) = Err e
+abbrev pub next_result : Result (Option Section) LoadFault → Result (Option SectionRead) LoadFault
+next_result r = result_map_both (option_map section_read) (λ e. e) r
 
 -- How far a file is read: what is left of it, and what the reader awaits there.
 pub record ReadSoFar : Type 0 where
-  pub left : Piece
+  pub left : PartRead
   pub stage : Stage
 
 -- how far a reader has come
@@ -82,12 +81,12 @@ abbrev pub in_order : ReadSoFar → Bool
 in_order r = may_come r.stage (head_code r.left.bytes)
 
 -- the section whose head comes next, or why it is refused
-abbrev pub section_answer : ReadSoFar → Result Found FileRefusal
+abbrev pub section_answer : ReadSoFar → Result SectionRead FileRefusal
 section_answer r =
     cond (nat_lt (length r.left.bytes) 2) (Err CutShort) (cond (in_order r) (Ok (next_section r.left)) (Err WrongSection))
 
 -- the next section, none at the file's end, or why it is refused
-abbrev pub next_answer : ReadSoFar → Result (Option Found) LoadFault
+abbrev pub next_answer : ReadSoFar → Result (Option SectionRead) LoadFault
 next_answer r =
     cond (length r.left.bytes == 0) (Ok None)
     (cond (nat_lt (length r.left.bytes) 2) (Err (fault_at CutShort r.left.place))

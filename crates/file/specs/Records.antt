@@ -57,6 +57,6 @@ abbrev pub record_next : (Content → ℕ → Result Content FileRefusal) → Li
 record_next add bs c = cond (nat_lt (length bs) 8) (Err CutShort) (add c (word8 bs))
 
 -- n records from the front of bs, which stands at that place, each put on the board by `add`
-unfoldable pub records : (Content → ℕ → Result Content FileRefusal) → ℕ → List ℕ → ℕ → Content → Result Content LoadFault
-records add zero bs place c = Ok c
-records add (suc n) bs place c = go_on (at_place (record_next add bs c) place) (records add n (drop 8 bs) (place + 8))
+unfoldable pub records_added : (Content → ℕ → Result Content FileRefusal) → ℕ → List ℕ → ℕ → Content → Result Content LoadFault
+records_added add zero bs place c = Ok c
+records_added add (suc n) bs place c = go_on (at_place (record_next add bs c) place) (records_added add n (drop 8 bs) (place + 8))

@@ -1,5 +1,6 @@
 -- What a list of calls makes of a board, told by the calls' arguments alone.
 use Rattle.std.specs.Prelude.{List, [], ◌∷◌}
+use Rattle.std.specs.List.{fold}
 use Rattle.costs.specs.Meaning.{Meaning}
 use Rattle.board.specs.Content.{Content, new}
 use Rattle.board.specs.Calls.{size_after, row_after, line_after, reprice_row_after, reprice_line_after, without_lines}
@@ -11,11 +12,6 @@ use Rattle.file.specs.Load.{load_after}
 pub data State : Type 0 where
   draft : Content → State
   settled : Content → State
-
--- its content
-abbrev pub content : State → Content
-content (draft c) = c
-content (settled c) = c
 
 -- What a call makes of a draft's content: size sets M and T, add puts a row or line last, reprice sets that number's
 -- cost, clear drops all lines, and load takes the file's content, or a new board's where it is declined. A call that is
@@ -47,8 +43,7 @@ stepped m (settled c) x = on_settled c x
 
 -- the state after a list of calls, from a state on
 abbrev pub state_from : Meaning → State → List Call → State
-state_from m s [] = s
-state_from m s (x ∷ xs) = state_from m (stepped m s x) xs
+state_from m s xs = fold (stepped m) s xs
 
 -- The state after a list of calls on a new board.
 abbrev pub state_after : Meaning → List Call → State

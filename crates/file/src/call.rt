@@ -2,7 +2,7 @@
 ghost use Rattle.std.specs.Prelude.{◌≡◌};
 ghost use Rattle.std.proofs.Common.{rules};
 ghost use Rattle.std.specs.Cmp.Rules.{comparing};
-ghost use Rattle.file.specs.Parts.{piece};
+ghost use Rattle.file.specs.Parts.{part_read};
 ghost use Rattle.file.specs.Answers.{span, bytes_at};
 
 use crate::part::Note;
@@ -38,7 +38,7 @@ pub struct NoteSpan {
 impl NoteSpan {
     // Where this note stands.
     pub(crate) fn of(note: Note<'_>) -> NoteSpan
-        ensures { result ≡ span (piece note.entry) }
+        ensures { result ≡ span (part_read note.entry) }
     {
         NoteSpan {
             place: note.place,

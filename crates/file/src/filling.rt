@@ -1,9 +1,9 @@
 // A board that is being filled from a file.
 ghost use Rattle.std.specs.Prelude.{◌≡◌, ◌+◌, drop, OnOk};
 ghost use Rattle.board.specs.Held.{draft_content};
-ghost use Rattle.file.specs.Readers.{section_of, found_section, read_so_far};
+ghost use Rattle.file.specs.Readers.{section_of, section_read, read_so_far};
 ghost use Rattle.file.specs.declared.section.SectionKind.TheVariants.{Note};
-ghost use Rattle.file.specs.Records.{record_added, record_next, records};
+ghost use Rattle.file.specs.Records.{record_added, record_next, records_added};
 ghost use Rattle.file.specs.Fillings.{told, so_far, from_stage};
 ghost use Rattle.file.specs.Load.{section_added, note_taken};
 
@@ -39,7 +39,7 @@ impl<'d, 'a, K: Kind> Filling<'d, 'a, K> {
 
     // Adds a section: rows and lines go to the board.
     fn add_section(&mut self, section: Section<'a>) -> Result<(), LoadFault>
-        ensures after { told result (so_far self.new) ≡ section_added K.meaning self.old.trust (found_section section.entry) (so_far self.old) }
+        ensures after { told result (so_far self.new) ≡ section_added K.meaning self.old.trust (section_read section.entry) (so_far self.old) }
         ensures same { (self.new.draft.ghost_name ≡ self.old.draft.ghost_name) × (self.new.trust ≡ self.old.trust) }
     {
         match section {
@@ -62,8 +62,12 @@ impl<'d, 'a, K: Kind> Filling<'d, 'a, K> {
     }
 
     // Adds a section's records, one after the other.
-    fn add_records<R: SectionRecord>(&mut self, mut part: Unread<'a>, count: u16) -> Result<(), LoadFault>
-        ensures after { told result (draft_content self.new.draft.now) ≡ records (record_added R.read_as (R.added K.meaning self.old.trust)) count part.entry.bytes.now part.entry.place (draft_content self.old.draft.now) }
+    fn add_records<R: SectionRecord>(
+        &mut self,
+        mut part: Unread<'a>,
+        count: u16,
+    ) -> Result<(), LoadFault>
+        ensures after { told result (draft_content self.new.draft.now) ≡ records_added (record_added R.read_as (R.added K.meaning self.old.trust)) count part.entry.bytes.now part.entry.place (draft_content self.old.draft.now) }
         ensures same { (self.new.draft.ghost_name ≡ self.old.draft.ghost_name) × (self.new.trust ≡ self.old.trust) × (self.new.note ≡ self.old.note) }
     {
         for _ in 0..count {

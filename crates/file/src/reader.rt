@@ -1,6 +1,6 @@
 // A reader of a file's sections.
 ghost use Rattle.std.specs.Prelude.{◌≡◌};
-ghost use Rattle.file.specs.Readers.{read_so_far, found_read, found_next, admitted, stage_after, section_answer, next_answer, next_after};
+ghost use Rattle.file.specs.Readers.{read_so_far, section_result, next_result, admitted, stage_after, section_answer, next_answer, next_after};
 
 use crate::fields::read_head;
 use crate::refusal::{FileRefusal, LoadFault};
@@ -32,7 +32,7 @@ impl<'a> Reader<'a> {
     // The next section, or none at the file's end. Not an `Iterator`'s `next`: a refused section leaves the reader where it
     // is, and so it would never end.
     pub fn next(&mut self) -> Result<Option<Section<'a>>, LoadFault>
-        ensures answer { found_next result ≡ next_answer (read_so_far self.old) }
+        ensures answer { next_result result ≡ next_answer (read_so_far self.old) }
         ensures after { read_so_far self.new ≡ next_after (read_so_far self.old) }
     {
         if self.left.bytes.is_empty() {
@@ -45,7 +45,7 @@ impl<'a> Reader<'a> {
 
     // The section whose head comes next: code (4), count (12). A refused one leaves the reader as it is.
     fn section(&mut self) -> Result<Section<'a>, FileRefusal>
-        ensures answer { found_read result ≡ section_answer (read_so_far self.old) }
+        ensures answer { section_result result ≡ section_answer (read_so_far self.old) }
         ensures after { read_so_far self.new ≡ next_after (read_so_far self.old) }
     {
         let [code_count, count_end, rest @ ..] = self.left.bytes else {

@@ -1,7 +1,7 @@
 // A list of calls on a new board.
 ghost use Rattle.std.specs.Prelude.{◌≡◌};
 ghost use Rattle.file.specs.States.{state_after};
-ghost use Rattle.file.specs.Histories.{records_of, defined_records, Holds};
+ghost use Rattle.file.specs.Histories.{records_of, defined_records, MadeBy};
 ghost use Rattle.file.specs.Promise.{AnswersCheapestWhenSettled};
 
 use crate::boards::Board;
@@ -12,7 +12,7 @@ use costs::Kind;
 
 // The board after all these calls on a new one.
 pub fn replay<K: Kind>(calls: &[Call<'_>]) -> Board<K>
-    ensures holds { Holds K.meaning calls.now result }
+    ensures holds { MadeBy K.meaning calls.now result }
     ensures records { records_of result ≡ defined_records K.meaning (state_after K.meaning calls.now) }
     ensures promise { AnswersCheapestWhenSettled K.meaning calls.now }
 {

@@ -1,7 +1,7 @@
 // The sections of a file.
 ghost use Rattle.std.specs.Prelude.{◌≡◌};
 ghost use Rattle.file.specs.Sections.{section_size};
-ghost use Rattle.file.specs.Readers.{section_code, section_of, found_section};
+ghost use Rattle.file.specs.Readers.{section_code, section_of, section_read};
 
 use crate::unread::Unread;
 
@@ -41,7 +41,7 @@ impl SectionKind {
 
     // The section of this kind that has that part and count.
     pub fn section<'a>(self, part: Unread<'a>, count: u16) -> Section<'a>
-        ensures { found_section result ≡ section_of self part.entry count }
+        ensures { section_read result ≡ section_of self part.entry count }
     {
         match self {
             SectionKind::Rows => Section::Rows(part, count),

@@ -5,7 +5,7 @@ ghost use Rattle.board.specs.Boards.{settled_content, settled_records};
 ghost use Rattle.file.specs.declared.call.Call.{Call};
 ghost use Rattle.file.specs.States.{edited, stepped};
 ghost use Rattle.file.specs.Answers.{draft_answer, settled_answer, settled_buffer, step_answer, step_buffer, NoteStands, GivesItsNumbers};
-ghost use Rattle.file.specs.Histories.{state_of, records_of, Holds, Follows};
+ghost use Rattle.file.specs.Histories.{state_of, records_of, MadeBy, OneCallMore};
 
 use crate::boards::Board;
 use crate::call::{Answer, Call, NoteSpan};
@@ -57,7 +57,7 @@ pub fn step<K: Kind>(board: Board<K>, call: Call<'_>, buffer: &mut [u16]) -> (Bo
     ensures after { buffer.new ≡ step_buffer K.meaning (state_of board) (records_of board) call.entry buffer.old }
     ensures note { NoteStands K.meaning call.entry result.1 }
     ensures numbers { GivesItsNumbers }
-    ensures history { (calls : List Call) → Holds K.meaning calls board → Follows K.meaning calls call.entry buffer.old result.0 result.1 buffer.new }
+    ensures history { (calls : List Call) → MadeBy K.meaning calls board → OneCallMore K.meaning calls call.entry buffer.old result.0 result.1 buffer.new }
 {
     // (does nothing: it names what the board promises, on which `history` rests)
     board_theorems();

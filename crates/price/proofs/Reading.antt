@@ -4,9 +4,10 @@ use Rattle.std.specs.Option.{ok_or}
 use Rattle.std.specs.Borrow.{Bor}
 use Rattle.std.proofs.lemmas.List.{drop_more}
 use Rattle.words.specs.Numbers.{number_of}
-use Rattle.price.specs.declared.answer.Fault.{Fault}
-use Rattle.price.specs.declared.answer.Fault.TheVariants.{Unreadable}
-use Rattle.price.specs.Lines.{FirstUnread, largest, read_first, read_costs}
+use Rattle.price.specs.declared.answer.LineFault.{LineFault}
+use Rattle.price.specs.declared.answer.LineFault.TheVariants.{Unreadable}
+use Rattle.price.specs.Lines.{largest, read_first, read_costs}
+use Rattle.price.specs.Unread.{FirstUnread}
 
 -- numbers that were read, before what is read after them
 abbrev pub after : List ℕ → Result (List ℕ) (List ℕ) → Result (List ℕ) (List ℕ)
@@ -31,6 +32,6 @@ module _ (ws : List (List ℕ)) (i : ℕ) (within : i < length ws) (ns : List �
       ∙ ap (λ o. after ns (read_first (get_or ws i []) o (read_costs (drop (i + 1) ws)))) e
 
 -- the word that is no number, as a fault
-pub unread : (ws : List (List ℕ)) (w : Bor (List ℕ)) (o : Option ℕ) (f : Fault) → o ≡ None → read_costs ws ≡ Err w.now → Err f ≡ ok_or o (Unreadable w) → FirstUnread ws f
+pub unread : (ws : List (List ℕ)) (w : Bor (List ℕ)) (o : Option ℕ) (f : LineFault) → o ≡ None → read_costs ws ≡ Err w.now → Err f ≡ ok_or o (Unreadable w) → FirstUnread ws f
 unread ws w None f none stop e = let same : f ≡ Unreadable w = cc in subst (FirstUnread ws) (sym same) stop
 unread ws w (Some n) f none stop e = absurd cc

@@ -6,7 +6,7 @@ use Rattle.std.proofs.lemmas.Bool.Decides.{nat_tests}
 use Rattle.costs.specs.Meaning.{Meaning}
 use Rattle.words.specs.Numbers.{is_digit, all_digits}
 use Rattle.words.specs.Pieces.{spacing, pieces_of, NoSeparator}
-use Rattle.price.specs.Lines.{without_return, largest, kind_with_letter, read_first, read_costs, costs_answer, kind_answer, words_answer, written_costs, Of32Bits, ReadsWritten}
+use Rattle.price.specs.Lines.{without_return, largest, kind_with_letter, read_first, read_costs, costs_answer, kind_answer, words_answer, written_costs, Of32Bits, CostsReadBack}
 use Rattle.words.specs.Laws.{WordLaws}
 
 -- a carriage return
@@ -58,7 +58,7 @@ module _ (laws : WordLaws) where
       ap (λ o. read_first (decimal x) o (read_costs (map decimal xs))) (laws.numbers_back largest (omega arith) x (omega (arith, small.0)))
       ∙ ap (read_first (decimal x) (Some x)) (written_numbers xs small.1)
 
-  pub reads_written : ReadsWritten
+  pub reads_written : CostsReadBack
   reads_written l m e xs small =
       let line = l ∷ written_costs xs in
       let high = letter_high l m e in

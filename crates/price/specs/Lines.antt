@@ -4,12 +4,12 @@ use Rattle.std.specs.List.{flat_map, AllByRecursion}
 use Rattle.std.specs.Option.{option_map}
 use Rattle.costs.specs.Meaning.{Meaning}
 use Rattle.costs.specs.Lists.{join_answer}
-use Rattle.costs.specs.Names.{meaning_of, letter_of, named_by}
+use Rattle.costs.specs.Names.{meaning_of, letter_of, kind_by_letter}
 use Rattle.words.specs.Numbers.{number_of}
 use Rattle.words.specs.Pieces.{spacing, pieces_of}
 use Rattle.price.specs.declared.answer.Total.{Total}
-use Rattle.price.specs.declared.answer.Fault.{Fault}
-use Rattle.price.specs.declared.answer.Fault.TheVariants.{NotACost, Unreadable, OutOfMemory}
+use Rattle.price.specs.declared.answer.LineFault.{LineFault}
+use Rattle.price.specs.declared.answer.LineFault.TheVariants.{NotACost, Unreadable, OutOfMemory}
 
 -- What a line comes to; words are their bytes.
 pub data LineAnswer : Type 0 where
@@ -18,7 +18,7 @@ pub data LineAnswer : Type 0 where
   -- the kind's letter, and what the costs make, joined
   total : ℕ → ℕ → LineAnswer
   -- the first number that is no cost of the kind
-  no_cost : List ℕ → LineAnswer
+  not_a_cost : List ℕ → LineAnswer
   -- the first word that cannot be read
   unreadable : List ℕ → LineAnswer
 
@@ -32,7 +32,7 @@ words_of line = pieces_of spacing (without_return line)
 
 -- the kind that has the letter
 abbrev pub kind_with_letter : ℕ → Option Meaning
-kind_with_letter l = option_map meaning_of (named_by l)
+kind_with_letter l = option_map meaning_of (kind_by_letter l)
 
 -- the kind whose letter the word is: a word of one byte
 abbrev pub kind_of : List ℕ → Option Meaning
@@ -56,13 +56,13 @@ read_costs [] = Ok []
 read_costs (w ∷ ws) = read_first w (number_of largest w) (read_costs ws)
 
 -- what joining answered: the joined cost, or the word of the first number that is no cost
-abbrev pub joined_or_no_cost : Meaning → List (List ℕ) → Result ℕ ℕ → LineAnswer
-joined_or_no_cost m ws (Ok t) = total m.letter t
-joined_or_no_cost m ws (Err i) = no_cost (slice_index_or ws i [])
+abbrev pub joined_or_not_a_cost : Meaning → List (List ℕ) → Result ℕ ℕ → LineAnswer
+joined_or_not_a_cost m ws (Ok t) = total m.letter t
+joined_or_not_a_cost m ws (Err i) = not_a_cost (slice_index_or ws i [])
 
 -- the numbers of the words, joined under the kind
 abbrev pub joined_answer : Meaning → List (List ℕ) → List ℕ → LineAnswer
-joined_answer m ws ns = joined_or_no_cost m ws (join_answer m ns)
+joined_answer m ws ns = joined_or_not_a_cost m ws (join_answer m ns)
 
 -- a word that is no number makes the line unreadable, whatever its costs
 abbrev pub costs_answer : Meaning → List (List ℕ) → Result (List ℕ) (List ℕ) → LineAnswer
@@ -92,20 +92,14 @@ abbrev pub Of32Bits : List ℕ → Type 0
 Of32Bits xs = AllByRecursion (λ x. x < 2 ^ 32) xs
 
 -- The law of a line: a kind's letter and numbers in decimal digits come to what those numbers make, joined.
-abbrev pub ReadsWritten : Type 0
-ReadsWritten =
+abbrev pub CostsReadBack : Type 0
+CostsReadBack =
     (l : ℕ) (m : Meaning) → kind_with_letter l ≡ Some m → (xs : List ℕ) → Of32Bits xs → line_answer (l ∷ written_costs xs) ≡ joined_answer m (map decimal xs) xs
 
 -- What a line's outcome stands for, with bytes in place of references; `None` where memory did not suffice.
-abbrev pub answer_of : Result (Option Total) Fault → Option LineAnswer
+abbrev pub answer_of : Result (Option Total) LineFault → Option LineAnswer
 answer_of (Ok None) = Some nothing
 answer_of (Ok (Some t)) = Some (total (letter_of t.kind) t.cost)
-answer_of (Err (NotACost w)) = Some (no_cost w.now)
+answer_of (Err (NotACost w)) = Some (not_a_cost w.now)
 answer_of (Err (Unreadable w)) = Some (unreadable w.now)
 answer_of (Err OutOfMemory) = None
-
--- the fault is the first word that is no number, or memory that did not suffice
-abbrev pub FirstUnread : List (List ℕ) → Fault → Type 0
-FirstUnread ws (NotACost w) = ⊥
-FirstUnread ws (Unreadable w) = read_costs ws ≡ Err w.now
-FirstUnread ws OutOfMemory = Unit {0}

@@ -2,7 +2,7 @@
 use Rattle.std.specs.Prelude.{◌≡◌, ℕ, List, [], ◌∷◌, ◌++◌, codes, decimal}
 use Rattle.std.specs.List.{flat_map}
 use Rattle.std.proofs.Math.Utf8.{encode}
-use Rattle.price.specs.Lines.{LineAnswer, nothing, total, no_cost, unreadable, line_answer}
+use Rattle.price.specs.Lines.{LineAnswer, nothing, total, not_a_cost, unreadable, line_answer}
 use Rattle.words.specs.Pieces.{newline, pieces_of, NoSeparator}
 
 -- a line of a label and a word
@@ -13,7 +13,7 @@ word_line label word = label ++ (word ++ (10 ∷ []))
 abbrev pub printed : LineAnswer → List ℕ
 printed nothing = []
 printed (total letter t) = encode letter ++ (codes " " ++ (decimal t ++ (10 ∷ [])))
-printed (no_cost word) = word_line (codes "no 10 ") word
+printed (not_a_cost word) = word_line (codes "no 10 ") word
 printed (unreadable word) = word_line (codes "unreadable ") word
 
 -- what is printed of one line

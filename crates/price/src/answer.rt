@@ -3,7 +3,7 @@ ghost use Rattle.std.specs.Prelude.{◌≡◌, ◌++◌, Some, codes, decimal};
 ghost use Rattle.std.proofs.Common.{rules};
 ghost use Rattle.std.proofs.Math.Utf8.{encode};
 ghost use Rattle.costs.specs.Names.{letter_of};
-ghost use Rattle.price.specs.declared.answer.Fault.TheVariants.{OutOfMemory};
+ghost use Rattle.price.specs.declared.answer.LineFault.TheVariants.{OutOfMemory};
 
 use costs::KindName;
 use std::alloc::{AllocError, AllocFailed};
@@ -11,15 +11,15 @@ use std::fmt;
 use values::{ExactClone, write_plain};
 
 // What the costs of a line make, joined.
-#[derive(Clone, Copy)]
+#[derive(Clone, Copy, Debug, PartialEq, Eq)]
 pub struct Total {
     pub kind: KindName,
     pub cost: u32,
 }
 
 // Why a line has no total.
-#[derive(Clone, Copy)]
-pub enum Fault<'a> {
+#[derive(Clone, Copy, Debug, PartialEq, Eq)]
+pub enum LineFault<'a> {
     // 10: the first number that is no cost of the kind, as it was written
     NotACost(&'a [u8]),
     // the first word that cannot be read, as it was written
@@ -29,7 +29,7 @@ pub enum Fault<'a> {
 }
 
 // What a line comes to: a total, nothing where it has no words, or a fault.
-pub type LineAnswer<'a> = Result<Option<Total>, Fault<'a>>;
+pub type LineAnswer<'a> = Result<Option<Total>, LineFault<'a>>;
 
 impl fmt::Display for Total {
     ghost output = { λ t. Some (encode (letter_of t.kind) ++ (codes " " ++ decimal t.cost)) };
@@ -42,19 +42,19 @@ impl fmt::Display for Total {
     }
 }
 
-impl From<AllocError> for Fault<'_> {
+impl From<AllocError> for LineFault<'_> {
     ghost from_gives = { λ _ fault. fault ≡ OutOfMemory };
 
     fn from(_e: AllocError) -> Self {
-        Fault::OutOfMemory
+        LineFault::OutOfMemory
     }
 }
 
-impl<T: Drop> From<AllocFailed<T>> for Fault<'_> {
+impl<T: Drop> From<AllocFailed<T>> for LineFault<'_> {
     ghost from_gives = { λ _ fault. fault ≡ OutOfMemory };
 
     fn from(_e: AllocFailed<T>) -> Self {
-        Fault::OutOfMemory
+        LineFault::OutOfMemory
     }
 }
 
@@ -62,6 +62,6 @@ impl ExactClone for Total {
     ghost clone_is_same = { Prim.search rules };
 }
 
-impl ExactClone for Fault<'_> {
+impl ExactClone for LineFault<'_> {
     ghost clone_is_same = { Prim.search rules };
 }

@@ -3,9 +3,10 @@ ghost use Rattle.std.specs.Prelude.{◌≡◌, ◌<◌, map, length, Ok, IfOk, I
 ghost use Rattle.std.specs.Option.{option_map};
 ghost use Rattle.costs.specs.Lists.{join_answer};
 ghost use Rattle.costs.specs.Names.{meaning_of};
-ghost use Rattle.price.specs.Lines.{without_return, kind_of, read_costs, FirstUnread, answer_of, words_answer, line_answer, ReadsWritten};
+ghost use Rattle.price.specs.Unread.{FirstUnread};
+ghost use Rattle.price.specs.Lines.{without_return, kind_of, read_costs, answer_of, words_answer, line_answer, CostsReadBack};
 
-use crate::answer::{Fault, LineAnswer, Total};
+use crate::answer::{LineAnswer, LineFault, Total};
 use costs::{KindName, Points, Rank, Severity, join_all};
 use std::alloc::Global;
 use words::{Spacing, number, pieces, word_theorems};
@@ -31,13 +32,13 @@ fn kind_named(word: &[u8]) -> Option<KindName>
 }
 
 // The words' numbers, or the first word that is no number.
-fn numbers<'a>(heap: Global, words: &[&'a [u8]]) -> Result<Vec<u32>, Fault<'a>>
+fn numbers<'a>(heap: Global, words: &[&'a [u8]]) -> Result<Vec<u32>, LineFault<'a>>
     ensures read { MatchResult result (λ ns. read_costs (map (λ x. x.now) words.now) ≡ Ok ns.items) (FirstUnread (map (λ x. x.now) words.now)) }
     ensures one_each { IfOk result (λ ns. length ns.items ≡ length words.now) }
 {
     let mut numbers = Vec::new(heap);
     for word in words {
-        let n = number(word, LARGEST).ok_or(Fault::Unreadable(word))?;
+        let n = number(word, LARGEST).ok_or(LineFault::Unreadable(word))?;
         numbers.push(n as u32)?;
     }
     Ok(numbers)
@@ -63,9 +64,9 @@ fn words_answer<'a>(heap: Global, words: &[&'a [u8]]) -> LineAnswer<'a>
     let Some((letter, costs)) = words.split_first() else {
         return Ok(None);
     };
-    let kind = kind_named(letter).ok_or(Fault::Unreadable(letter))?;
+    let kind = kind_named(letter).ok_or(LineFault::Unreadable(letter))?;
     let numbers = numbers(heap, costs)?;
-    let cost = joined(kind, numbers.as_slice()).map_err(|i| Fault::NotACost(costs[i]))?;
+    let cost = joined(kind, numbers.as_slice()).map_err(|i| LineFault::NotACost(costs[i]))?;
     Ok(Some(Total { kind, cost }))
 }
 
@@ -73,7 +74,7 @@ fn words_answer<'a>(heap: Global, words: &[&'a [u8]]) -> LineAnswer<'a>
 #[tactic(auto, using(crate::proofs::Written::reads_written))]
 pub fn answer<'a>(heap: Global, line: &'a [u8]) -> LineAnswer<'a>
     ensures made { IfSome (answer_of result) (λ a. a ≡ line_answer line.now) }
-    ensures reads_written { ReadsWritten }
+    ensures reads_written { CostsReadBack }
 {
     word_theorems();
     let words = pieces::<Spacing>(heap, without_return(line))?;

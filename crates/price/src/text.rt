@@ -3,7 +3,7 @@ ghost use Rattle.std.specs.Prelude.{◌≡◌, ◌++◌, IfOk, OnOk, IsSomeAnd};
 ghost use Rattle.price.specs.Lines.{answer_of};
 ghost use Rattle.price.specs.Report.{word_line, printed, report_of, LineByLine};
 
-use crate::answer::{Fault, LineAnswer};
+use crate::answer::{LineAnswer, LineFault};
 use crate::line::answer;
 use std::alloc::{AllocError, Global};
 use words::{Newline, pieces, word_theorems};
@@ -30,9 +30,9 @@ fn push_answer(out: &mut Vec<u8>, answer: LineAnswer<'_>) -> Result<(), AllocErr
             let line = format!(in *out.allocator(); "{total}\n")?;
             out.extend_from_slice(line.as_bytes())
         }
-        Err(Fault::NotACost(word)) => push_word_line(out, b"no 10 ", word),
-        Err(Fault::Unreadable(word)) => push_word_line(out, b"unreadable ", word),
-        Err(Fault::OutOfMemory) => Err(AllocError),
+        Err(LineFault::NotACost(word)) => push_word_line(out, b"no 10 ", word),
+        Err(LineFault::Unreadable(word)) => push_word_line(out, b"unreadable ", word),
+        Err(LineFault::OutOfMemory) => Err(AllocError),
     }
 }
 

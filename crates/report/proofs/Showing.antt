@@ -18,12 +18,12 @@ use Rattle.board.specs.Packing.{packed, SmallLine, Small, PackingIsExact}
 use Rattle.board.specs.Paths.{Path, stop, go}
 use Rattle.board.specs.Settling.{RecordedReading}
 use Rattle.board.specs.Computing.{settled_log, recorded_reading}
-use Rattle.board.specs.Promises.{HoldsOfEveryContent, RecordedIsCheapest, Computed, NoneBelow}
+use Rattle.board.specs.Promises.{CallsKeepEaseAndSettle, RecordedIsCheapest, Computed, NoReadingBelowWorst}
 use Rattle.board.specs.Questions.{cost_told, cost_answer}
-use Rattle.board.specs.Meanings.{Written}
+use Rattle.board.specs.Meanings.{WritesCheapest}
 use Rattle.file.specs.declared.refusal.LoadFault.{LoadFault}
 use Rattle.file.specs.Load.{load_answer, load_after}
-use Rattle.file.specs.Parts.{Piece}
+use Rattle.file.specs.Parts.{PartRead}
 use Rattle.report.specs.Least.{move_line, line_of, cost_line, no_line, most_moves, reading_lines, settled_lines, loaded_lines, lines_under, LinesOf, none, one_more, Printed, PrintsReading}
 use Rattle.report.specs.Packed.{Packs, packed_line}
 
@@ -68,7 +68,7 @@ module _ {c : Content} where
         (ap (λ (o : Option Move). flat_map (line_of c) (option_to_list o)) (exact.comes_back v s) ∙ append-nil (line_of c v))
         (packed_lines rest)
 
-module _ {m : Meaning} (laws : Lawful m) (promises : HoldsOfEveryContent) {c : Content} (sound : Sound m c) where
+module _ {m : Meaning} (laws : Lawful m) (promises : CallsKeepEaseAndSettle) {c : Content} (sound : Sound m c) where
   computed : Computed m c
   computed = promises.computed m c laws sound
 
@@ -88,14 +88,14 @@ module _ {m : Meaning} (laws : Lawful m) (promises : HoldsOfEveryContent) {c : C
   long_lines : {k : ℕ} {vs : List Move} → RecordedReading m c (settled_log m c) k vs → most_moves < length vs → settled_lines m c (settled_log m c) ≡ no_line TooLong
   long_lines r long = ap (reading_lines m c) (found_so r).1 ∙ cond-false _ _ _ (lt-leb _ _ long)
 
-  no_lines : NoneBelow m c → settled_lines m c (settled_log m c) ≡ no_line NoReading
+  no_lines : NoReadingBelowWorst m c → settled_lines m c (settled_log m c) ≡ no_line NoReading
   no_lines below = ap (reading_lines m c) ((computed.none (settled_log m c) computed.settled).0 (cheapest.none.1 below))
 
   printed : {k : ℕ} {vs : List Move} → RecordedReading m c (settled_log m c) k vs → length vs ≤ most_moves → Printed m c k vs (settled_lines m c (settled_log m c))
   printed r short = record { text = _; each = lines_of (reading_shown r); whole = short_lines r short }
 
   -- what stands in a buffer of 4,096 numbers after path
-  module _ (exact : PackingIsExact) (buffer after : List ℕ) (n : ℕ) (w : Written m c (settled_log m c) buffer n after) where
+  module _ (exact : PackingIsExact) (buffer after : List ℕ) (n : ℕ) (w : WritesCheapest m c (settled_log m c) buffer n after) where
     in_front : take n after ≡ map packed w.reading
     in_front =
         ap (take n) w.written
@@ -117,13 +117,13 @@ module _ {m : Meaning} (laws : Lawful m) (promises : HoldsOfEveryContent) {c : C
         ∙ sym (short_lines w.recorded short)
 
 -- what is printed of a file
-pub prints_reading : {m : Meaning} (laws : Lawful m) (promises : HoldsOfEveryContent) (bytes : List ℕ) → Sound m (load_after m bytes) → PrintsReading m bytes
+pub prints_reading : {m : Meaning} (laws : Lawful m) (promises : CallsKeepEaseAndSettle) (bytes : List ℕ) → Sound m (load_after m bytes) → PrintsReading m bytes
 prints_reading {m} laws promises bytes sound =
     let c = load_after m bytes in
-    let loads : (n : Piece) → load_answer m bytes ≡ Ok n → lines_under m bytes ≡ settled_lines m c (settled_log m c) = λ n is. ap (λ (o : Result Piece LoadFault). loaded_lines m o c) is in
+    let loads : (n : PartRead) → load_answer m bytes ≡ Ok n → lines_under m bytes ≡ settled_lines m c (settled_log m c) = λ n is. ap (λ (o : Result PartRead LoadFault). loaded_lines m o c) is in
     record {
       reading = λ n is k vs r short. subst (Printed m c k vs) (sym (loads n is)) (printed laws promises sound r short);
       too_long = λ n is k vs r long. loads n is ∙ long_lines laws promises sound r long;
       none = λ n is below. loads n is ∙ no_lines laws promises sound below;
-      fault = λ e is. ap (λ (o : Result Piece LoadFault). loaded_lines m o c) is;
+      fault = λ e is. ap (λ (o : Result PartRead LoadFault). loaded_lines m o c) is;
     }

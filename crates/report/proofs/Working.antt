@@ -2,13 +2,13 @@
 use Rattle.std.proofs.Common.{refl}
 use lib.Utf8.{encode}
 use Rattle.std.specs.Fmt.{digits}
-use Rattle.file.specs.Records.{row_added, line_added, records}
+use Rattle.file.specs.Records.{row_added, line_added, records_added}
 use Rattle.file.specs.Load.{at_end, from_note, from_lines, from_rows, sized}
 use Rattle.board.specs.Computing.{settled_log, record_between, best_moments, best_rows, recorded_reading}
 use Rattle.report.specs.Worked.{WorkedExamples}
 
 pub worked : WorkedExamples
-unfolding encode digits settled_log recorded_reading best_rows best_moments record_between row_added line_added records at_end from_note from_lines from_rows sized
+unfolding encode digits settled_log recorded_reading best_rows best_moments record_between row_added line_added records_added at_end from_note from_lines from_rows sized
 worked = record {
   joining = record { full_seconds = refl; no_rank = refl; last_rank = refl; too_many_breaches = refl; last_sum = refl; first_worst = refl };
   settling = record { flight_log = refl; flight_reading = refl };

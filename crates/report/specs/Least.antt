@@ -13,11 +13,11 @@ use Rattle.board.specs.Refusals.{refusal_text}
 use Rattle.board.specs.Content.{Content}
 use Rattle.board.specs.Moves.{IsMove}
 use Rattle.board.specs.Settling.{Record, RecordedReading}
-use Rattle.board.specs.Computing.{settled_log, ReadingFound, recorded_reading}
-use Rattle.board.specs.Promises.{NoneBelow}
+use Rattle.board.specs.Computing.{settled_log, Reading, recorded_reading}
+use Rattle.board.specs.Promises.{NoReadingBelowWorst}
 use Rattle.file.specs.declared.refusal.LoadFault.{LoadFault}
 use Rattle.file.specs.Refusals.{load_fault_text}
-use Rattle.file.specs.Parts.{Piece}
+use Rattle.file.specs.Parts.{PartRead}
 use Rattle.file.specs.Laws.{telling}
 use Rattle.file.specs.Load.{load_answer, load_after}
 
@@ -38,13 +38,13 @@ abbrev pub cost_line : ℕ → ℕ → ℕ → List ℕ
 cost_line letter cost moves = encode letter ++ (codes " " ++ (decimal cost ++ (codes " " ++ (decimal moves ++ codes "\n"))))
 
 -- a move's line in digits, or `-`
-abbrev pub line_word : Option ℕ → List ℕ
-line_word (Some j) = decimal j
-line_word None = codes "-"
+abbrev pub line_column : Option ℕ → List ℕ
+line_column (Some j) = decimal j
+line_column None = codes "-"
 
 -- the line of a move by that row: the row's number, the move's line or `-`, and the row's action
 abbrev pub move_line : Move → Row → List ℕ
-move_line v r = decimal v.row ++ (codes " " ++ (line_word v.line ++ (codes " " ++ (decimal r.action ++ codes "\n"))))
+move_line v r = decimal v.row ++ (codes " " ++ (line_column v.line ++ (codes " " ++ (decimal r.action ++ codes "\n"))))
 
 -- the line of a move of a content, by the row that it names
 abbrev pub line_of : Content → Move → List ℕ
@@ -56,7 +56,7 @@ most_moves = 4096
 
 -- what is printed of the recorded reading: a line of its cost, and one line a move; 12 alone where it has too many moves, and
 -- 11 alone where there is none
-abbrev pub reading_lines : Meaning → Content → Option ReadingFound → List ℕ
+abbrev pub reading_lines : Meaning → Content → Option Reading → List ℕ
 reading_lines m c None = no_line NoReading
 reading_lines m c (Some f) =
     cond (nat_le (length f.moves) most_moves) (cost_line m.letter f.cost (length f.moves) ++ flat_map (line_of c) f.moves) (no_line TooLong)
@@ -66,7 +66,7 @@ abbrev pub settled_lines : Meaning → Content → List Record → List ℕ
 settled_lines m c log = reading_lines m c (recorded_reading m c log)
 
 -- what is printed of a load's answer and the content it left
-abbrev pub loaded_lines : Meaning → Result Piece LoadFault → Content → List ℕ
+abbrev pub loaded_lines : Meaning → Result PartRead LoadFault → Content → List ℕ
 loaded_lines m (Ok note) c = settled_lines m c (settled_log m c)
 loaded_lines m (Err e) c = bad_line e
 
@@ -101,7 +101,7 @@ pub record Printed (m : Meaning) (c : Content) (k : ℕ) (vs : List Move) (lines
 -- kind's letter and the reading's cost and number of moves, and then one line for each of its moves; where that has more moves, or there is none
 -- below the worst, that refusal's number alone; and where it does not load, the fault.
 pub record PrintsReading (m : Meaning) (bytes : List ℕ) : Type 0 where
-  pub reading : (n : Piece) → load_answer m bytes ≡ Ok n → (k : ℕ) (vs : List Move) → RecordedReading m (load_after m bytes) (settled_log m (load_after m bytes)) k vs → length vs ≤ most_moves → Printed m (load_after m bytes) k vs (lines_under m bytes)
-  pub too_long : (n : Piece) → load_answer m bytes ≡ Ok n → (k : ℕ) (vs : List Move) → RecordedReading m (load_after m bytes) (settled_log m (load_after m bytes)) k vs → most_moves < length vs → lines_under m bytes ≡ no_line TooLong
-  pub none : (n : Piece) → load_answer m bytes ≡ Ok n → NoneBelow m (load_after m bytes) → lines_under m bytes ≡ no_line NoReading
+  pub reading : (n : PartRead) → load_answer m bytes ≡ Ok n → (k : ℕ) (vs : List Move) → RecordedReading m (load_after m bytes) (settled_log m (load_after m bytes)) k vs → length vs ≤ most_moves → Printed m (load_after m bytes) k vs (lines_under m bytes)
+  pub too_long : (n : PartRead) → load_answer m bytes ≡ Ok n → (k : ℕ) (vs : List Move) → RecordedReading m (load_after m bytes) (settled_log m (load_after m bytes)) k vs → most_moves < length vs → lines_under m bytes ≡ no_line TooLong
+  pub none : (n : PartRead) → load_answer m bytes ≡ Ok n → NoReadingBelowWorst m (load_after m bytes) → lines_under m bytes ≡ no_line NoReading
   pub fault : (e : LoadFault) → load_answer m bytes ≡ Err e → lines_under m bytes ≡ bad_line e

@@ -1,4 +1,6 @@
+-- What a reader must believe: what is printed of a file.
 pub mod Least
+-- The worked examples, in one table.
 pub mod Worked
--- What only inner functions name.
+-- What only inner functions and proofs name.
 pub mod Packed

@@ -3,7 +3,6 @@ ghost use Rattle.std.specs.Prelude.{◌≡◌, ◌++◌, IfOk, OnOk, slice_index
 ghost use Rattle.std.specs.List.{All, flat_map};
 ghost use Rattle.costs.specs.Names.{meaning_of};
 ghost use Rattle.board.specs.Boards.{settled_content, settled_records};
-ghost use Rattle.board.specs.Content.{Sound};
 ghost use Rattle.report.specs.Least.{meaning_under, cost_line, settled_lines, lines_under, least_lines, PrintsReading, LimitNeverShows};
 ghost use Rattle.report.specs.Packed.{Packs, packed_line};
 ghost use Rattle.report.specs.Worked.{WorkedExamples};
@@ -55,7 +54,6 @@ fn first_line<K: Kind>(heap: Global, cost: u32, moves: u32) -> Result<String, Al
 
 // What is printed of a settled board: cost and moves, or why there are none. (A refusal is printed here, and not passed on.)
 fn reading<K: Kind>(heap: Global, settled: &Settled<K>) -> Result<String, AllocError>
-    requires sound { Sound K.meaning (settled_content settled.now) }
     ensures { IfOk result (λ s. string_bytes s ≡ settled_lines K.meaning (settled_content settled.now) (settled_records settled.now)) }
 {
     board_theorems();

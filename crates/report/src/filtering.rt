@@ -9,14 +9,14 @@ use std::io;
 use std::io::{Read, Write};
 
 // The largest part of the input that is read. What stands beyond never shows: so says `limit` in the contract of `least`.
-const LONGEST: u64 = 8192;
+const BYTES_READ: u64 = 8192;
 
 // The input's first bytes, as many as are read.
 fn read_first<R: Read + Drop>(heap: Global, reader: R) -> io::Result<Vec<u8>>
     ensures { IfOk result (λ v. IfSome (R.remaining reader) (λ input. v.items ≡ take bytes_read input)) }
 {
     let mut input = Vec::new(heap);
-    reader.take(LONGEST).read_to_end(&mut input)?;
+    reader.take(BYTES_READ).read_to_end(&mut input)?;
     Ok(input)
 }
 

@@ -9,7 +9,7 @@ use Rattle.std.specs.Result.{result_ok}
 use Rattle.std.proofs.lemmas.List.Elements.{recursion_from_All}
 use Rattle.std.proofs.lemmas.List.Splits.{slice_split-cons_yes, slice_split-cons_no}
 use Rattle.std.proofs.lemmas.Slice.Eq.{bytes_eq-Decides}
-use Rattle.costs.specs.Names.{named_by}
+use Rattle.costs.specs.Names.{kind_by_letter}
 use Rattle.hex.specs.Hex.{hex_digit_value, is_hex_digit, decode_of}
 use Rattle.hex.proofs.HexLemmas.{decode_of-ok}
 use Rattle.words.specs.Hex.{then_digit, bytes_of, hex_on, hex_number_of}
@@ -17,7 +17,7 @@ use Rattle.words.specs.Numbers.{all_digits, is_number, number_of, number_before,
 use Rattle.words.specs.Pieces.{spacing, has_byte, pieces_of, NoSeparator}
 use Rattle.words.specs.Splits.{split_of}
 use Rattle.words.specs.Laws.{WordLaws}
-use Rattle.script.specs.Calls.{Call, kind}
+use Rattle.script.specs.Commands.{Command, kind}
 use Rattle.script.specs.declared.check.Run.{Run}
 use Rattle.script.specs.declared.name.Name.{Name}
 use Rattle.script.specs.declared.name.Name.TheVariants as name
@@ -151,35 +151,35 @@ short_list (Some ks) ms e = (ks, refl)
 numbered_free : {B : Type 0} (f : List ℕ → B) (limits : List ℕ) (ws : List (List ℕ)) (y : B) → option_map f (numbers_of limits ws) ≡ Some y → AllFree ws
 numbered_free f limits ws y e = let n = mapped f (numbers_of limits ws) y e in numbers_free limits ws n.0 n.1
 
-alone_free : (c : Call) (ws : List (List ℕ)) (y : Call) → alone_call c ws ≡ Some y → AllFree ws
+alone_free : (c : Command) (ws : List (List ℕ)) (y : Command) → alone_call c ws ≡ Some y → AllFree ws
 alone_free c [] y e = tt
 alone_free c (w ∷ ws) y e = absurd cc
 
-letter_free : (l : ℕ) (y : Call) → option_map kind (named_by l) ≡ Some y → point l ≡ false
-letter_free l y e = read_free (λ (n : ℕ). option_map kind (named_by n)) l y refl e
+letter_free : (l : ℕ) (y : Command) → option_map kind (kind_by_letter l) ≡ Some y → point l ≡ false
+letter_free l y e = read_free (λ (n : ℕ). option_map kind (kind_by_letter n)) l y refl e
 
-kind_free : (ws : List (List ℕ)) (y : Call) → kind_call ws ≡ Some y → AllFree ws
+kind_free : (ws : List (List ℕ)) (y : Command) → kind_call ws ≡ Some y → AllFree ws
 kind_free [] y e = absurd cc
 kind_free ([] ∷ []) y e = absurd cc
 kind_free ((l ∷ []) ∷ []) y e = ((letter_free l y e, tt), tt)
 kind_free ((l ∷ m ∷ ls) ∷ []) y e = absurd cc
 kind_free (w ∷ v ∷ ws) y e = absurd cc
 
-file_free : (ws : List (List ℕ)) (y : Call) → load_call ws ≡ Some y → AllFree ws
+file_free : (ws : List (List ℕ)) (y : Command) → load_call ws ≡ Some y → AllFree ws
 file_free [] y e = tt
 file_free (w ∷ []) y e = let b = mapped _ (bytes_of w) y e in (bytes_free w b.0 b.1, tt)
 file_free (w ∷ v ∷ ws) y e = absurd cc
 
-rows_free : (ws : List (List ℕ)) (y : Call) → row_call ws ≡ Some y → AllFree ws
+rows_free : (ws : List (List ℕ)) (y : Command) → row_call ws ≡ Some y → AllFree ws
 rows_free ws y e = option_and_then_some row_from (numbers_of row_limits ws) y e (λ ns is made. numbers_free row_limits ws ns is)
 
-moves_free : WordLaws → (ws : List (List ℕ)) (y : Call) → check_call ws ≡ Some y → AllFree ws
+moves_free : WordLaws → (ws : List (List ℕ)) (y : Command) → check_call ws ≡ Some y → AllFree ws
 moves_free laws ws y e =
     let m = mapped _ (moves_of ws) y e in
     let r = short_list (runs_of ws) m.0 m.1 in
     runs_free laws ws r.0 r.1
 
-call_free : WordLaws → (n : Name) (ws : List (List ℕ)) (y : Call) → call_of n ws ≡ Some y → AllFree ws
+call_free : WordLaws → (n : Name) (ws : List (List ℕ)) (y : Command) → call_of n ws ≡ Some y → AllFree ws
 call_free laws name.Kind ws y e = kind_free ws y e
 call_free laws name.Size ws y e = numbered_free _ two_wide ws y e
 call_free laws name.Row ws y e = rows_free ws y e
@@ -225,8 +225,8 @@ name_free w n e =
     (λ e. absurd cc)))))))))))))) e
 
 -- the words of a line that says a call
-module _ (laws : WordLaws) (w : List ℕ) (ws : List (List ℕ)) (c : Call) where
-  said_free : (n : Name) → name_of w ≡ Some n → (o : Option Call) → call_of n ws ≡ o → call_parsed o ≡ call c → AllFree (w ∷ ws)
+module _ (laws : WordLaws) (w : List ℕ) (ws : List (List ℕ)) (c : Command) where
+  said_free : (n : Name) → name_of w ≡ Some n → (o : Option Command) → call_of n ws ≡ o → call_parsed o ≡ call c → AllFree (w ∷ ws)
   said_free n named None at e = absurd cc
   said_free n named (Some y) at e = (name_free w n named, call_free laws n ws y at)
 
@@ -238,11 +238,11 @@ module _ (laws : WordLaws) (w : List ℕ) (ws : List (List ℕ)) (c : Call) wher
   first_words true e = absurd cc
   first_words false e = named_words (name_of w) refl e
 
-words_free : WordLaws → (ws : List (List ℕ)) (c : Call) → words_parsed ws ≡ call c → AllFree ws
+words_free : WordLaws → (ws : List (List ℕ)) (c : Command) → words_parsed ws ≡ call c → AllFree ws
 words_free laws [] c e = absurd cc
 words_free laws (w ∷ ws) c e = first_words laws w ws c (is_comment w) e
 
-pub said_again : WordLaws → (line answer : List ℕ) (c : Call) → line_parsed line ≡ call c → line_parsed (script_part_of line ++ (codes " -> " ++ answer)) ≡ call c
+pub said_again : WordLaws → (line answer : List ℕ) (c : Command) → line_parsed line ≡ call c → line_parsed (script_part_of line ++ (codes " -> " ++ answer)) ≡ call c
 said_again laws line answer c e =
     let part = script_part_of line in
     line_answered laws part answer (pieces_free part (words_free laws (pieces_of spacing part) c e)) ∙ e

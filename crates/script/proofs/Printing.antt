@@ -3,21 +3,21 @@ use Rattle.std.proofs.Common.{◌≡◌, ℕ, List, ◌++◌, length, take, drop
 use Rattle.std.proofs.lemmas.List.{drop_all, take_all}
 use Rattle.costs.specs.Meaning.{Meaning}
 use Rattle.board.specs.Settling.{Record}
-use Rattle.file.specs.declared.call.Call.{Call as BoardCall}
+use Rattle.file.specs.declared.call.Call.{Call}
 use Rattle.file.specs.declared.call.Call.TheVariants as board
 use Rattle.file.specs.States.{State, draft, settled}
 use Rattle.file.specs.Answers.{step_answer, step_buffer}
 use Rattle.file.specs.Histories.{defined_records}
 use Rattle.costs.specs.declared.kind_name.KindName.{KindName}
-use Rattle.script.specs.declared.command.Command.{Command}
+use Rattle.script.specs.declared.command.Command.{Command as VecCommand}
 use Rattle.script.specs.declared.command.Command.TheVariants.{Kind, Size, AddRow, AddLine, RepriceRow, RepriceLine, ClearLines, Load, Settle, Reopen, Cost, Path, Between, Check}
-use Rattle.script.specs.Calls.{Call, kind, size, row, line, reprice_row, reprice_line, clear, load, settle, reopen, cost, path, between, check, command_of, on_board}
+use Rattle.script.specs.Commands.{Command, kind, size, row, line, reprice_row, reprice_line, clear, load, settle, reopen, cost, path, between, check, command_of, on_board}
 use Rattle.script.specs.Sessions.{without_address}
 use Rattle.script.specs.Telling.{file_of, told_text}
-use Rattle.script.specs.Printing.{Standing, made_text, board_text, board_after, call_text, call_after}
+use Rattle.script.specs.Printing.{SessionState, made_text, board_text, board_after, call_text, call_after}
 
 -- where a call's bytes or moves lie changes nothing
-same_text : (m : Meaning) (s : State) (log : List Record) (x : BoardCall) (buffer : List ℕ) → told_text (step_answer m s log x buffer) (file_of x) (step_buffer m s log x buffer) ≡ told_text (step_answer m s log (without_address x) buffer) (file_of (without_address x)) (step_buffer m s log (without_address x) buffer)
+same_text : (m : Meaning) (s : State) (log : List Record) (x : Call) (buffer : List ℕ) → told_text (step_answer m s log x buffer) (file_of x) (step_buffer m s log x buffer) ≡ told_text (step_answer m s log (without_address x) buffer) (file_of (without_address x)) (step_buffer m s log (without_address x) buffer)
 same_text m (draft c) log (board.Load bs) buffer = refl
 same_text m (draft c) log (board.Check xs) buffer = refl
 same_text m (draft c) log (board.Size a b) buffer = refl
@@ -46,11 +46,11 @@ same_text m (settled c) log (board.Between s q) buffer = refl
 same_text m (settled c) log board.Reopen buffer = refl
 
 -- the text of a call on a board that holds the defined records
-pub answered_so : (m : Meaning) (s : State) (log : List Record) (x : BoardCall) (o : Option BoardCall) (buffer : List ℕ) → log ≡ defined_records m s → Some (without_address x) ≡ o → told_text (step_answer m s log x buffer) (file_of x) (step_buffer m s log x buffer) ≡ made_text m s o buffer
+pub answered_so : (m : Meaning) (s : State) (log : List Record) (x : Call) (o : Option Call) (buffer : List ℕ) → log ≡ defined_records m s → Some (without_address x) ≡ o → told_text (step_answer m s log x buffer) (file_of x) (step_buffer m s log x buffer) ≡ made_text m s o buffer
 answered_so m s log x o buffer r e =
     same_text m s log x buffer
     ∙ ap (λ (l : List Record). told_text (step_answer m s l (without_address x) buffer) (file_of (without_address x)) (step_buffer m s l (without_address x) buffer)) r
-    ∙ ap (λ (c : Option BoardCall). made_text m s c buffer) e
+    ∙ ap (λ (c : Option Call). made_text m s c buffer) e
 
 -- a vector whose whole slice was written
 pub written_over : (n : ℕ) (xs ys : List ℕ) → n ≡ length ys → length xs ≡ length ys → take n (xs ++ drop (length xs) ys) ≡ xs
@@ -60,7 +60,7 @@ written_over n xs ys h k =
     ∙ take_all n xs (omega (arith, h, k))
 
 -- a call that makes one on a board
-pub board_call : (s : Option Standing) (c : Call) (x : BoardCall) → on_board c ≡ Some x → (call_text s c ≡ codes " -> " ++ board_text s c) × (call_after s c ≡ board_after s c)
+pub board_call : (s : Option SessionState) (c : Command) (x : Call) → on_board c ≡ Some x → (call_text s c ≡ codes " -> " ++ board_text s c) × (call_after s c ≡ board_after s c)
 board_call s (kind k) x e = absurd cc
 board_call s (size a b) x e = (refl, refl)
 board_call s (row r) x e = (refl, refl)
@@ -77,7 +77,7 @@ board_call s (between p q) x e = (refl, refl)
 board_call s (check xs) x e = (refl, refl)
 
 -- a command that names no kind makes a call
-pub made_call : (c : Command) → ((k : KindName) → c ≡ Kind k → ⊥) → (x : BoardCall) × (on_board (command_of c) ≡ Some x)
+pub made_call : (c : VecCommand) → ((k : KindName) → c ≡ Kind k → ⊥) → (x : Call) × (on_board (command_of c) ≡ Some x)
 made_call (Kind k) other = absurd (other k refl)
 made_call (Size a b) other = (_, refl)
 made_call (AddRow r) other = (_, refl)

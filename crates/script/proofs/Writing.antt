@@ -15,12 +15,12 @@ use Rattle.words.specs.Hex.{written_u16}
 use Rattle.words.specs.Numbers.{number_before, numbers_of}
 use Rattle.words.specs.Pieces.{spacing, pieces_of, NoSeparator}
 use Rattle.words.specs.Laws.{WordLaws}
-use Rattle.script.specs.Calls.{Call, kind, size, row, line, reprice_row, reprice_line, clear, load, settle, reopen, cost, path, between, check}
+use Rattle.script.specs.Commands.{Command, kind, size, row, line, reprice_row, reprice_line, clear, load, settle, reopen, cost, path, between, check}
 use Rattle.script.specs.Forms.{longest_list, two_wide, row_limits, line_limits, kind_word, two_call, row_from, line_from, load_call}
 use Rattle.script.specs.Names.{spells}
 use Rattle.script.specs.Runs.{run_of, run_from, split_run, run_before, runs_of, not_too_long, check_call}
 use Rattle.script.specs.Script.{call, call_parsed, words_parsed}
-use Rattle.script.specs.Written.{file_words, row_numbers, line_numbers, name_word, words_after, written, UpTo, Fits, ReadsWritten}
+use Rattle.script.specs.Written.{file_words, row_numbers, line_numbers, name_word, words_after, written_line, UpTo, Fits, CallsReadBack}
 use Rattle.script.proofs.Unreserved.{Unreserved, is_unreserved, reserved, point, star, fewer, no_star, unreserved_decimal, unreserved_bytes, unreserved_u16, unreserved_text, unreserved_letter, no_point, spaced_pieces, line_without}
 use Rattle.script.proofs.Again.{said_again}
 use Rattle.script.proofs.Arrows.{line_alone, line_answered, no_star_split}
@@ -71,7 +71,7 @@ longest_fits : AllByRecursion (λ m. m < 2 ^ 64) (longest_list ∷ [])
 longest_fits = (omega arith, tt)
 
 -- the words of a call are unreserved
-unreserved_names : (c : Call) → is_unreserved (name_word c) ≡ true
+unreserved_names : (c : Command) → is_unreserved (name_word c) ≡ true
 unreserved_names (kind k) = refl
 unreserved_names (size m t) = refl
 unreserved_names (row r) = refl
@@ -87,7 +87,7 @@ unreserved_names (path n) = refl
 unreserved_names (between s q) = refl
 unreserved_names (check ms) = refl
 
-pub unreserved_name : (c : Call) → Unreserved (name_word c)
+pub unreserved_name : (c : Command) → Unreserved (name_word c)
 unreserved_name c = unreserved_text (name_word c) (unreserved_names c)
 
 module _ (laws : WordLaws) where
@@ -95,7 +95,7 @@ module _ (laws : WordLaws) where
   unreserved_file [] small = tt
   unreserved_file (b ∷ bs) small = (unreserved_bytes b bs small, tt)
 
-  pub unreserved_words : (c : Call) → Fits c → AllByRecursion Unreserved (words_after c)
+  pub unreserved_words : (c : Command) → Fits c → AllByRecursion Unreserved (words_after c)
   unreserved_words (kind k) fits = (unreserved_letter k, tt)
   unreserved_words (size m t) fits = unreserved_decimals laws two_wide (m ∷ t ∷ []) two_wide_fit fits
   unreserved_words (row r) fits = unreserved_decimals laws row_limits (row_numbers r) row_limits_fit fits
@@ -124,11 +124,11 @@ kind_back Open = refl
 kind_back Close = refl
 kind_back End = refl
 
-abbrev with_kind : Row → RowKind → Call
+abbrev with_kind : Row → RowKind → Command
 with_kind r k = row record { kind = k; from = r.from; to = r.to; label = r.label; action = r.action; cost = r.cost }
 
 module _ (laws : WordLaws) where
-  says_two : (make : ℕ → ℕ → Call) (a b : ℕ) → UpTo two_wide (a ∷ b ∷ []) → two_call make (map decimal (a ∷ b ∷ [])) ≡ Some (make a b)
+  says_two : (make : ℕ → ℕ → Command) (a b : ℕ) → UpTo two_wide (a ∷ b ∷ []) → two_call make (map decimal (a ∷ b ∷ [])) ≡ Some (make a b)
   says_two make a b fits = ap (option_map (λ ns. make (get_or ns 0 0) (get_or ns 1 0))) (numbers_back laws two_wide (a ∷ b ∷ []) two_wide_fit fits)
 
   says_file : (bs : List ℕ) → AllByRecursion (λ b. b < 2 ^ 8) bs → load_call (file_words bs) ≡ Some (load bs)
@@ -140,7 +140,7 @@ module _ (laws : WordLaws) where
   says_moves ms small short =
       ap (λ o. option_map check (not_too_long o)) (runs_back laws ms small) ∙ ap (option_map check) (cond-true _ _ _ (le-leb (length ms) longest_list short))
 
-  says : (c : Call) → Fits c → words_parsed (name_word c ∷ words_after c) ≡ call c
+  says : (c : Command) → Fits c → words_parsed (name_word c ∷ words_after c) ≡ call c
   unfolding spells
   says (kind k) fits = ap call_parsed (says_kind k)
   says (size m t) fits = ap call_parsed (says_two size m t fits)
@@ -158,18 +158,18 @@ module _ (laws : WordLaws) where
   says (check ms) fits = ap call_parsed (says_moves ms fits.0 fits.1)
 
   -- no byte of a written call is one that no word has, but for a space
-  pub written_without : (also : ℕ → Bool) → ((b : ℕ) → reserved b ≡ false → also b ≡ false) → also 32 ≡ false → (c : Call) → Fits c → NoSeparator also (written c)
+  pub written_without : (also : ℕ → Bool) → ((b : ℕ) → reserved b ≡ false → also b ≡ false) → also 32 ≡ false → (c : Command) → Fits c → NoSeparator also (written_line c)
   written_without also rules space c fits = line_without laws also rules space (name_word c) (words_after c) (unreserved_name c) (unreserved_words laws c fits)
 
-  pub unpointed : (c : Call) → Fits c → NoSeparator point (written c)
+  pub unpointed : (c : Command) → Fits c → NoSeparator point (written_line c)
   unpointed c fits = written_without point no_point refl c fits
 
-  pieces : (c : Call) → Fits c → pieces_of spacing (written c) ≡ name_word c ∷ words_after c
+  pieces : (c : Command) → Fits c → pieces_of spacing (written_line c) ≡ name_word c ∷ words_after c
   pieces c fits = spaced_pieces laws (name_word c) (words_after c) (unreserved_name c) (unreserved_words laws c fits)
 
-  pub reads_written : ReadsWritten
+  pub reads_written : CallsReadBack
   reads_written = record {
-    alone = λ c fits. line_alone laws (written c) (unpointed c fits) ∙ ap words_parsed (pieces c fits) ∙ says c fits;
-    answered = λ c fits answer. line_answered laws (written c) answer (unpointed c fits) ∙ ap words_parsed (pieces c fits) ∙ says c fits;
+    alone = λ c fits. line_alone laws (written_line c) (unpointed c fits) ∙ ap words_parsed (pieces c fits) ∙ says c fits;
+    answered = λ c fits answer. line_answered laws (written_line c) answer (unpointed c fits) ∙ ap words_parsed (pieces c fits) ∙ says c fits;
     again = said_again laws;
   }

@@ -1,5 +1,5 @@
--- What reading words gives where it may fail.
-use Rattle.std.specs.Prelude.{ℕ, List, Some, None, Ok, Err, codes, Option, Result}
+-- The text of an error.
+use Rattle.std.specs.Prelude.{ℕ, List, codes}
 use Rattle.script.specs.declared.error.ParseError.{ParseError}
 use Rattle.script.specs.declared.error.ParseError.TheVariants.{Unreadable, OutOfMemory}
 
@@ -7,9 +7,3 @@ use Rattle.script.specs.declared.error.ParseError.TheVariants.{Unreadable, OutOf
 abbrev pub parse_error_text : ParseError → List ℕ
 parse_error_text Unreadable = codes "unreadable"
 parse_error_text OutOfMemory = codes "out of memory"
-
--- what was read, or that it cannot be read; nothing where memory did not suffice
-abbrev pub read_of : {T U : Type 0} → (T → U) → Result T ParseError → Option (Option U)
-read_of f (Ok x) = Some (Some (f x))
-read_of f (Err Unreadable) = Some None
-read_of f (Err OutOfMemory) = None

@@ -3,9 +3,9 @@ use Rattle.std.specs.Prelude.{ℕ, List, [], ◌∷◌, Some, None, Option, slic
 use Rattle.std.specs.Option.{option_map, option_and_then}
 use Rattle.words.specs.Numbers.{numbers_of}
 use Rattle.words.specs.Hex.{bytes_of}
-use Rattle.costs.specs.Names.{named_by}
+use Rattle.costs.specs.Names.{kind_by_letter}
 use Rattle.board.specs.Rows.{kind_of_number}
-use Rattle.script.specs.Calls.{Call, kind, size, row, line, reprice_row, reprice_line, load, path, between}
+use Rattle.script.specs.Commands.{Command, kind, size, row, line, reprice_row, reprice_line, load, path, between}
 
 -- the largest number of 32 bits
 abbrev pub widest : ℕ
@@ -26,31 +26,31 @@ abbrev pub line_limits : List ℕ
 line_limits = 255 ∷ 255 ∷ 255 ∷ widest ∷ []
 
 -- a call with no words after its name
-abbrev pub alone_call : Call → List (List ℕ) → Option Call
+abbrev pub alone_call : Command → List (List ℕ) → Option Command
 alone_call c [] = Some c
 alone_call c (w ∷ ws) = None
 
 -- kind LETTER
-abbrev pub kind_word : List ℕ → Option Call
+abbrev pub kind_word : List ℕ → Option Command
 kind_word [] = None
-kind_word (l ∷ []) = option_map kind (named_by l)
+kind_word (l ∷ []) = option_map kind (kind_by_letter l)
 kind_word (l ∷ m ∷ ls) = None
 
-abbrev pub kind_call : List (List ℕ) → Option Call
+abbrev pub kind_call : List (List ℕ) → Option Command
 kind_call [] = None
 kind_call (w ∷ []) = kind_word w
 kind_call (w ∷ v ∷ ws) = None
 
 -- a call with two numbers of 32 bits
-abbrev pub two_call : (ℕ → ℕ → Call) → List (List ℕ) → Option Call
+abbrev pub two_call : (ℕ → ℕ → Command) → List (List ℕ) → Option Command
 two_call make ws = option_map (λ ns. make (slice_index ns 0) (slice_index ns 1)) (numbers_of two_wide ws)
 
 -- size MODES MOMENTS
-abbrev pub size_call : List (List ℕ) → Option Call
+abbrev pub size_call : List (List ℕ) → Option Command
 size_call ws = two_call size ws
 
 -- row KIND FROM TO LABEL ACTION COST
-abbrev pub row_from : List ℕ → Option Call
+abbrev pub row_from : List ℕ → Option Command
 row_from ns =
     option_map
     (λ k. row record {
@@ -63,21 +63,21 @@ row_from ns =
     })
     (kind_of_number (slice_index ns 0))
 
-abbrev pub row_call : List (List ℕ) → Option Call
+abbrev pub row_call : List (List ℕ) → Option Command
 row_call ws = option_and_then row_from (numbers_of row_limits ws)
 
 -- line FROM TO EVENT COST
-abbrev pub line_from : List ℕ → Call
+abbrev pub line_from : List ℕ → Command
 line_from ns = line record { from = slice_index ns 0; to = slice_index ns 1; event = slice_index ns 2; cost = slice_index ns 3 }
 
-abbrev pub line_call : List (List ℕ) → Option Call
+abbrev pub line_call : List (List ℕ) → Option Command
 line_call ws = option_map line_from (numbers_of line_limits ws)
 
 -- reprice-row I COST, and reprice-line I COST
-abbrev pub reprice_row_call : List (List ℕ) → Option Call
+abbrev pub reprice_row_call : List (List ℕ) → Option Command
 reprice_row_call ws = two_call reprice_row ws
 
-abbrev pub reprice_line_call : List (List ℕ) → Option Call
+abbrev pub reprice_line_call : List (List ℕ) → Option Command
 reprice_line_call ws = two_call reprice_line ws
 
 -- load HEX; no word is an empty file
@@ -86,17 +86,17 @@ file_word [] = Some []
 file_word (w ∷ []) = Some w
 file_word (w ∷ v ∷ ws) = None
 
-abbrev pub file_call : Option (List ℕ) → Option Call
+abbrev pub file_call : Option (List ℕ) → Option Command
 file_call None = None
 file_call (Some w) = option_map load (bytes_of w)
 
-abbrev pub load_call : List (List ℕ) → Option Call
+abbrev pub load_call : List (List ℕ) → Option Command
 load_call ws = file_call (file_word ws)
 
 -- path LENGTH
-abbrev pub path_call : List (List ℕ) → Option Call
+abbrev pub path_call : List (List ℕ) → Option Command
 path_call ws = option_map (λ ns. path (slice_index ns 0)) (numbers_of (longest_list ∷ []) ws)
 
 -- between S Q
-abbrev pub between_call : List (List ℕ) → Option Call
+abbrev pub between_call : List (List ℕ) → Option Command
 between_call ws = two_call between ws

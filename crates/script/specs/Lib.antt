@@ -1,6 +1,6 @@
 -- What a reader must believe: the calls of a script, how each is written as a line, and how lines are read (that a written call
--- is read back says `ReadsWritten` of Written);
-pub mod Calls
+-- is read back says `CallsReadBack` of Written);
+pub mod Commands
 pub mod Names
 pub mod Written
 pub mod Errors
@@ -14,3 +14,4 @@ pub mod Printing
 pub mod Worked
 -- What only inner functions and proofs name.
 pub mod Sessions
+pub mod Reads

@@ -4,7 +4,7 @@ use Rattle.std.specs.Option.{option_map}
 use Rattle.words.specs.Hex.{hex_number_of}
 use Rattle.words.specs.Numbers.{number_of}
 use Rattle.words.specs.Splits.{split_of}
-use Rattle.script.specs.Calls.{Call, check}
+use Rattle.script.specs.Commands.{Command, check}
 use Rattle.script.specs.Forms.{widest, longest_list}
 use Rattle.script.specs.declared.check.Run.{Run}
 
@@ -46,5 +46,5 @@ abbrev pub moves_of : List (List ℕ) → Option (List ℕ)
 moves_of ws = not_too_long (runs_of ws)
 
 -- check HEX..
-abbrev pub check_call : List (List ℕ) → Option Call
+abbrev pub check_call : List (List ℕ) → Option Command
 check_call ws = option_map check (moves_of ws)

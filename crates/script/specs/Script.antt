@@ -3,13 +3,13 @@ use Rattle.std.specs.Prelude.{ℕ, Bool, cond, List, [], ◌∷◌, Some, None, 
 use Rattle.words.specs.Pieces.{spacing, pieces_of}
 use Rattle.words.specs.Splits.{split_of}
 use Rattle.words.specs.Trims.{trimmed_of}
-use Rattle.script.specs.Calls.{Call, clear, settle, reopen, cost, command_of}
+use Rattle.script.specs.Commands.{Command, clear, settle, reopen, cost, command_of}
 use Rattle.script.specs.Names.{name_of}
 use Rattle.script.specs.Forms.{alone_call, kind_call, size_call, row_call, line_call, reprice_row_call, reprice_line_call, load_call, path_call, between_call}
 use Rattle.script.specs.Runs.{check_call}
 use Rattle.script.specs.declared.name.Name.{Name}
 use Rattle.script.specs.declared.name.Name.TheVariants.{Kind, Size, Row, Line, RepriceRow, RepriceLine, Clear, Load, Settle, Reopen, Cost, Path, Between, Check}
-use Rattle.script.specs.declared.command.Command.{Command}
+use Rattle.script.specs.declared.command.Command.{Command as VecCommand}
 use Rattle.script.specs.declared.error.ParseError.{ParseError}
 use Rattle.script.specs.declared.error.ParseError.TheVariants.{Unreadable, OutOfMemory}
 
@@ -19,7 +19,7 @@ pub data LineParsed : Type 0 where
   skip : LineParsed
   -- it cannot be read
   unreadable : LineParsed
-  call : Call → LineParsed
+  call : Command → LineParsed
 
 -- what stands before the first arrow, or all of the line
 abbrev pub before_split : List ℕ → Option (List ℕ × List ℕ) → List ℕ
@@ -31,7 +31,7 @@ abbrev pub script_part_of : List ℕ → List ℕ
 script_part_of line = trimmed_of spacing (before_split line (split_of (codes " -> ") line))
 
 -- the call of that name with the words after it
-abbrev pub call_of : Name → List (List ℕ) → Option Call
+abbrev pub call_of : Name → List (List ℕ) → Option Command
 call_of Kind ws = kind_call ws
 call_of Size ws = size_call ws
 call_of Row ws = row_call ws
@@ -47,7 +47,7 @@ call_of Path ws = path_call ws
 call_of Between ws = between_call ws
 call_of Check ws = check_call ws
 
-abbrev pub call_parsed : Option Call → LineParsed
+abbrev pub call_parsed : Option Command → LineParsed
 call_parsed None = unreadable
 call_parsed (Some c) = call c
 
@@ -69,7 +69,7 @@ abbrev pub line_parsed : List ℕ → LineParsed
 line_parsed line = words_parsed (pieces_of spacing (script_part_of line))
 
 -- what the code's answer stands for; nothing where memory did not suffice
-abbrev pub parsed_of : Result (Option Command) ParseError → Option LineParsed
+abbrev pub parsed_of : Result (Option VecCommand) ParseError → Option LineParsed
 parsed_of (Ok None) = Some skip
 parsed_of (Ok (Some c)) = Some (call (command_of c))
 parsed_of (Err Unreadable) = Some unreadable

@@ -53,9 +53,9 @@ each_call =
 abbrev pub asked : List (List ℕ × List ℕ) → List ℕ
 asked = flat_map (λ p. p.0 ++ codes "\n")
 
-abbrev pub answered : List (List ℕ × List ℕ) → List ℕ
-answered = flat_map (λ p. p.0 ++ (p.1 ++ codes "\n"))
+abbrev pub with_answers : List (List ℕ × List ℕ) → List ℕ
+with_answers = flat_map (λ p. p.0 ++ (p.1 ++ codes "\n"))
 
 pub record WorkedScripts : Type 0 where
   pub small : printed small_script ≡ small_answers
-  pub each : printed (asked each_call) ≡ answered each_call
+  pub each : printed (asked each_call) ≡ with_answers each_call

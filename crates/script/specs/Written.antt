@@ -6,7 +6,7 @@ use Rattle.board.specs.declared.row.Row.{Row}
 use Rattle.board.specs.declared.row.Line.{Line}
 use Rattle.board.specs.Rows.{kind_number}
 use Rattle.words.specs.Hex.{written_bytes, written_u16}
-use Rattle.script.specs.Calls.{Call, kind, size, row, line, reprice_row, reprice_line, clear, load, settle, reopen, cost, path, between, check}
+use Rattle.script.specs.Commands.{Command, kind, size, row, line, reprice_row, reprice_line, clear, load, settle, reopen, cost, path, between, check}
 use Rattle.script.specs.Forms.{longest_list, two_wide, row_limits, line_limits}
 use Rattle.script.specs.Script.{call, script_part_of, line_parsed}
 
@@ -27,7 +27,7 @@ abbrev pub line_numbers : Line → List ℕ
 line_numbers l = l.from ∷ l.to ∷ l.event ∷ l.cost ∷ []
 
 -- the name of a call
-abbrev pub name_word : Call → List ℕ
+abbrev pub name_word : Command → List ℕ
 name_word (kind k) = codes "kind"
 name_word (size m t) = codes "size"
 name_word (row r) = codes "row"
@@ -44,7 +44,7 @@ name_word (between s q) = codes "between"
 name_word (check ms) = codes "check"
 
 -- the words after the name
-abbrev pub words_after : Call → List (List ℕ)
+abbrev pub words_after : Command → List (List ℕ)
 words_after (kind k) = (letter_of k ∷ []) ∷ []
 words_after (size m t) = map decimal (m ∷ t ∷ [])
 words_after (row r) = map decimal (row_numbers r)
@@ -61,15 +61,15 @@ words_after (between s q) = map decimal (s ∷ q ∷ [])
 words_after (check ms) = map written_u16 ms
 
 -- a call as a line
-abbrev pub written : Call → List ℕ
-written c = name_word c ++ spaced (words_after c)
+abbrev pub written_line : Command → List ℕ
+written_line c = name_word c ++ spaced (words_after c)
 
 -- as many numbers as limits, each at most its limit
 abbrev pub UpTo : List ℕ → List ℕ → Type 0
 UpTo limits ns = AllZip (λ limit n. n ≤ limit) limits ns
 
 -- the numbers of a call are within their limits
-abbrev pub Fits : Call → Type 0
+abbrev pub Fits : Command → Type 0
 Fits (kind k) = Unit {0}
 Fits (size m t) = UpTo two_wide (m ∷ t ∷ [])
 Fits (row r) = UpTo row_limits (row_numbers r)
@@ -86,9 +86,9 @@ Fits (between s q) = UpTo two_wide (s ∷ q ∷ [])
 Fits (check ms) = AllByRecursion (λ m. m < 2 ^ 16) ms × (length ms ≤ longest_list)
 
 -- The laws of a call's line.
-pub record ReadsWritten : Type 0 where
+pub record CallsReadBack : Type 0 where
   -- a call within its limits, written as a line, reads back as that call, alone and with any answer behind an arrow
-  pub alone : (c : Call) → Fits c → line_parsed (written c) ≡ call c
-  pub answered : (c : Call) → Fits c → (answer : List ℕ) → line_parsed (written c ++ (codes " -> " ++ answer)) ≡ call c
+  pub alone : (c : Command) → Fits c → line_parsed (written_line c) ≡ call c
+  pub answered : (c : Command) → Fits c → (answer : List ℕ) → line_parsed (written_line c ++ (codes " -> " ++ answer)) ≡ call c
   -- a line that says a call, however it is spelled, says it again as it is printed: its part before the arrow, and any answer
-  pub again : (line answer : List ℕ) (c : Call) → line_parsed line ≡ call c → line_parsed (script_part_of line ++ (codes " -> " ++ answer)) ≡ call c
+  pub again : (line answer : List ℕ) (c : Command) → line_parsed line ≡ call c → line_parsed (script_part_of line ++ (codes " -> " ++ answer)) ≡ call c

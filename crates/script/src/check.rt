@@ -1,10 +1,10 @@
 // The words of check: a number of 16 bits in hexadecimal, or HEX*K for that number K times.
 ghost use Rattle.std.specs.Prelude.{◌≡◌, map, IfSome, vec_items};
-ghost use Rattle.script.specs.Errors.{read_of};
+ghost use Rattle.script.specs.Reads.{read_of};
 ghost use Rattle.script.specs.Runs.{run_of, moves_of};
 
 use crate::error::ParseError;
-use crate::limits::{LONGEST, WIDEST};
+use crate::limits::{LONGEST_LIST, WIDEST};
 use std::alloc::Global;
 use words::{hex_u16, number, split_once};
 
@@ -35,7 +35,7 @@ pub fn moves(heap: Global, words: &[&[u8]]) -> Result<Vec<u16>, ParseError>
     for word in words {
         let run = read_run(word).ok_or(ParseError::Unreadable)?;
         let len = list.len() + run.times as usize;
-        if len > LONGEST {
+        if len > LONGEST_LIST {
             return Err(ParseError::Unreadable);
         }
         list.resize(len, run.number)?;

@@ -1,7 +1,7 @@
 // The calls that a script makes.
 ghost use Rattle.std.specs.Prelude.{◌≡◌};
 ghost use Rattle.std.specs.Option.{option_map};
-ghost use Rattle.script.specs.Calls.{command_of, on_board};
+ghost use Rattle.script.specs.Commands.{command_of, on_board};
 ghost use Rattle.script.specs.Sessions.{without_address};
 
 use board::{Line, Row};
@@ -9,7 +9,7 @@ use costs::KindName;
 use file::Call;
 
 // One call.
-#[derive(Drop)]
+#[derive(Debug, PartialEq, Eq, Drop)]
 pub enum Command {
     // a new board of this kind
     Kind(KindName),

@@ -2,8 +2,8 @@
 ghost use Rattle.std.specs.Prelude.{◌≡◌, map, IfSome, slice_index};
 ghost use Rattle.std.specs.Option.{option_map};
 ghost use Rattle.words.specs.Numbers.{numbers_of};
-ghost use Rattle.script.specs.Calls.{command_of};
-ghost use Rattle.script.specs.Errors.{read_of};
+ghost use Rattle.script.specs.Commands.{command_of};
+ghost use Rattle.script.specs.Reads.{read_of};
 ghost use Rattle.script.specs.Forms.{two_wide, alone_call, kind_call, row_call, line_call, file_word, load_call, path_call};
 ghost use Rattle.script.specs.Runs.{check_call};
 ghost use Rattle.script.specs.Script.{call_of};
@@ -11,7 +11,7 @@ ghost use Rattle.script.specs.Script.{call_of};
 use crate::check::moves;
 use crate::command::Command;
 use crate::error::ParseError;
-use crate::limits::{BYTE, LONGEST, WIDEST};
+use crate::limits::{BYTE, LONGEST_LIST, WIDEST};
 use crate::name::Name;
 use board::{Line, Row, RowKind};
 use costs::KindName;
@@ -99,7 +99,7 @@ fn load(heap: Global, words: &[&[u8]]) -> Result<Command, ParseError>
 fn path(words: &[&[u8]]) -> Option<Command>
     ensures { option_map command_of result ≡ path_call (map (λ x. x.now) words.now) }
 {
-    let [length] = numbers(words, [LONGEST as u64])?;
+    let [length] = numbers(words, [LONGEST_LIST as u64])?;
     Some(Command::Path(length as usize))
 }
 

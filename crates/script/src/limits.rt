@@ -7,4 +7,4 @@ pub const BYTE: u64 = u8::MAX as u64;
 pub const WIDEST: u64 = u32::MAX as u64;
 
 // The largest length of a buffer or of a list.
-pub const LONGEST: usize = 1_048_576;
+pub const LONGEST_LIST: usize = 1_048_576;

@@ -4,11 +4,11 @@ ghost use Rattle.std.specs.Option.{option_map};
 ghost use Rattle.board.specs.Content.{new};
 ghost use Rattle.file.specs.States.{draft};
 ghost use Rattle.file.specs.Histories.{state_of};
-ghost use Rattle.script.specs.Calls.{command_of, on_board};
+ghost use Rattle.script.specs.Commands.{command_of, on_board};
 ghost use Rattle.script.specs.Script.{script_part_of, line_parsed};
-ghost use Rattle.script.specs.Printing.{buffer_of, made_text, made_state, board_text, board_after, call_text, call_after, line_text, line_after, printed, PrintsAnswers};
+ghost use Rattle.script.specs.Printing.{buffer_of, made_text, made_state, board_text, board_after, call_text, call_after, line_text, after_line, printed, PrintsAnswers};
 ghost use Rattle.script.specs.Worked.{WorkedScripts};
-ghost use Rattle.script.specs.Sessions.{standing, said};
+ghost use Rattle.script.specs.Sessions.{session_state, said};
 
 use crate::command::Command;
 use crate::error::ParseError;
@@ -31,7 +31,7 @@ enum Session {
 
 // A new board of the kind.
 fn new_session(kind: KindName) -> Session
-    ensures stands { standing result ≡ record { kind = kind; state = draft new } }
+    ensures stands { session_state result ≡ record { kind = kind; state = draft new } }
 {
     match kind {
         KindName::Points => Session::Points(Board::Drafted(Draft::new())),
@@ -76,8 +76,8 @@ fn call_session(
     session: Session,
     command: &Command,
 ) -> Result<Session, AllocError>
-    ensures text { OnOk result (out.new.items ≡ out.old.items ++ board_text (Some (standing session)) (command_of command.now)) }
-    ensures after { IfOk result (λ s. Some (standing s) ≡ board_after (Some (standing session)) (command_of command.now)) }
+    ensures text { OnOk result (out.new.items ≡ out.old.items ++ board_text (Some (session_state session)) (command_of command.now)) }
+    ensures after { IfOk result (λ s. Some (session_state s) ≡ board_after (Some (session_state session)) (command_of command.now)) }
 {
     let next = match session {
         Session::Points(board) => Session::Points(call_board(out, board, command)?),
@@ -93,8 +93,8 @@ fn obey(
     session: Option<Session>,
     command: &Command,
 ) -> Result<Option<Session>, AllocError>
-    ensures text { OnOk result (out.new.items ≡ out.old.items ++ call_text (option_map standing session) (command_of command.now)) }
-    ensures after { IfOk result (λ s. option_map standing s ≡ call_after (option_map standing session) (command_of command.now)) }
+    ensures text { OnOk result (out.new.items ≡ out.old.items ++ call_text (option_map session_state session) (command_of command.now)) }
+    ensures after { IfOk result (λ s. option_map session_state s ≡ call_after (option_map session_state session) (command_of command.now)) }
 {
     if let Command::Kind(kind) = command {
         return Ok(Some(new_session(*kind)));
@@ -117,7 +117,7 @@ fn obey(
 enum Said {
     Nothing,
     Unreadable,
-    Call(Command),
+    Command(Command),
 }
 
 // What the line says. Memory that did not suffice for reading it is the error of the whole script.
@@ -126,7 +126,7 @@ fn read(heap: Global, line: &[u8]) -> Result<Said, AllocError>
 {
     match parse(heap, line) {
         Ok(None) => Ok(Said::Nothing),
-        Ok(Some(command)) => Ok(Said::Call(command)),
+        Ok(Some(command)) => Ok(Said::Command(command)),
         Err(ParseError::Unreadable) => Ok(Said::Unreadable),
         Err(ParseError::OutOfMemory) => Err(AllocError),
     }
@@ -147,12 +147,12 @@ fn print_line(
     session: Option<Session>,
     line: &[u8],
 ) -> Result<Option<Session>, AllocError>
-    ensures text { OnOk result (out.new.items ≡ out.old.items ++ line_text (option_map standing session) (script_part_of line.now) (line_parsed line.now)) }
-    ensures after { IfOk result (λ s. option_map standing s ≡ line_after (option_map standing session) (line_parsed line.now)) }
+    ensures text { OnOk result (out.new.items ≡ out.old.items ++ line_text (option_map session_state session) (script_part_of line.now) (line_parsed line.now)) }
+    ensures after { IfOk result (λ s. option_map session_state s ≡ after_line (option_map session_state session) (line_parsed line.now)) }
 {
     match read(heap, line)? {
         Said::Nothing => Ok(session),
-        Said::Call(command) => {
+        Said::Command(command) => {
             push_script_part(out, line)?;
             let next = obey(out, session, &command)?;
             out.extend_from_slice(b"\n")?;

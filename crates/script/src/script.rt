@@ -1,7 +1,7 @@
 // Reading a line of a script.
 ghost use Rattle.std.specs.Prelude.{◌≡◌, map, IfSome};
 ghost use Rattle.script.specs.Script.{script_part_of, words_parsed, line_parsed, parsed_of};
-ghost use Rattle.script.specs.Written.{ReadsWritten};
+ghost use Rattle.script.specs.Written.{CallsReadBack};
 
 use crate::command::Command;
 use crate::error::ParseError;
@@ -36,7 +36,7 @@ fn parse_words(heap: Global, words: &[&[u8]]) -> Result<Option<Command>, ParseEr
 #[tactic(auto, using(crate::proofs::Writing::reads_written))]
 pub fn parse(heap: Global, line: &[u8]) -> Result<Option<Command>, ParseError>
     ensures made { IfSome (parsed_of result) (λ p. p ≡ line_parsed line.now) }
-    ensures reads_written { ReadsWritten }
+    ensures reads_written { CallsReadBack }
 {
     word_theorems();
     let words = pieces::<Spacing>(heap, script_part(line))?;

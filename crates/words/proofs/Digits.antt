@@ -5,7 +5,8 @@ use Rattle.std.proofs.lemmas.Str.Parse.{IsNumeralModel, numerals_by_fold}
 use Rattle.std.proofs.lemmas.List.{drop_more}
 use Rattle.std.proofs.lemmas.Option.{cond_some}
 use Rattle.std.proofs.lemmas.Bool.{cond-true, cond-false, and_from, and_parts, and_cases, and_left, and_right, lt-ltb, le-leb, lt-leb, leb-true, leb-false}
-use Rattle.words.specs.Numbers.{is_digit, all_digits, read_on, is_number, number_of, after_digit, ReadsBack}
+use Rattle.words.specs.Numbers.{is_digit, all_digits, read_on, is_number, number_of, DecimalReadsBack}
+use Rattle.words.specs.Digits.{after_digit}
 
 -- more digits never make a number smaller
 read_on_ge : (n : ℕ) (bs : List ℕ) → n ≤ read_on n bs
@@ -49,7 +50,7 @@ own = numerals_by_fold _ (search rules) read_on (search rules)
 pub decimal_digits : (n : ℕ) → n < 2 ^ 64 → all_digits (decimal n) ≡ true
 decimal_digits n big = digits_decimal own n big
 
-pub reads_back : (limit : ℕ) → limit < 2 ^ 64 → ReadsBack limit
+pub reads_back : (limit : ℕ) → limit < 2 ^ 64 → DecimalReadsBack limit
 unfolding number_of
 reads_back limit fits n small =
     let big : n < 2 ^ 64 = omega arith in

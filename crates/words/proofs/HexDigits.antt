@@ -8,7 +8,7 @@ use Rattle.std.proofs.lemmas.Bool.{cond-true, and_from, le-leb}
 use Rattle.std.proofs.lemmas.Bool.Decides.{nat_tests}
 use Rattle.hex.specs.Hex.{hex_digit_value, lower_digits, encode_with, IsBytes}
 use Rattle.hex.proofs.HexLemmas.{decode_of-encode_lower, IsDigits-lower_digits}
-use Rattle.words.specs.Hex.{then_digit, hex_on, hex_number_of, NumberReadsBack, BytesReadBack}
+use Rattle.words.specs.Hex.{then_digit, hex_on, hex_number_of, HexNumberReadsBack, HexBytesReadBack}
 
 -- a digit's value
 pub digit_below : (b d : ℕ) → hex_digit_value b ≡ Some d → d < 16
@@ -44,7 +44,7 @@ are_bytes [] small i = omega arith
 are_bytes (b ∷ bs) small zero = omega (arith, small.0)
 are_bytes (b ∷ bs) small (suc i) = are_bytes bs small.1 i
 
-pub bytes_read_back : BytesReadBack
+pub bytes_read_back : HexBytesReadBack
 bytes_read_back bs small = ap result_ok (decode_of-encode_lower bs (are_bytes bs small))
 
 -- the digit that writes a value
@@ -54,7 +54,7 @@ digit v = slice_index lower_digits v
 digit_back : (v : ℕ) → v < 16 → hex_digit_value (digit v) ≡ Some v
 digit_back v small = IsDigits-lower_digits v small
 
-pub number_reads_back : NumberReadsBack
+pub number_reads_back : HexNumberReadsBack
 unfolding hex_number_of encode_with
 number_reads_back n small =
     let one = n / 256 / 16 in

@@ -3,7 +3,7 @@ use Rattle.std.proofs.Common.{◌≡◌, ℕ, ◌+◌, ◌<◌, eqb, List, [], �
 use Rattle.std.specs.Option.{option_map}
 use Rattle.std.proofs.lemmas.List.{append_assoc, append-nil, drop_more, take_more}
 use Rattle.std.proofs.lemmas.Bool.{cond-true, cond-false, cases_Bool, eq-eqb, eqb-true}
-use Rattle.words.specs.Splits.{after_mark, longer, split_here, split_of, Rejoins}
+use Rattle.words.specs.Splits.{after_mark, longer, split_here, split_of, SplitRejoins}
 
 -- bytes that begin with the mark
 after_self : (mark back : List ℕ) → after_mark mark (mark ++ back) ≡ Some back
@@ -73,6 +73,6 @@ rejoins_here mark b bs (Some after) found later rest front back e =
     let same : ◌≡◌ {A = List ℕ × List ℕ} ([], after) (front, back) = cc in
     begins mark (b ∷ bs) after found ∙ ap (λ (q : List ℕ × List ℕ). q.0 ++ (mark ++ q.1)) same
 
-pub rejoins : Rejoins
+pub rejoins : SplitRejoins
 rejoins mark [] front back e = absurd cc
 rejoins mark (b ∷ bs) front back e = rejoins_here mark b bs (after_mark mark (b ∷ bs)) refl (split_of mark bs) (rejoins mark bs) front back e

@@ -3,7 +3,7 @@ use Rattle.std.proofs.Common.{◌≡◌, ℕ, Bool, List, [], ◌∷◌, reverse
 use Rattle.std.proofs.lemmas.List.{append-nil, reverse-append, reverse-reverse}
 use Rattle.std.proofs.lemmas.Bool.{cond-true, cond-false, cases_Bool}
 use Rattle.words.specs.Pieces.{pieces_of}
-use Rattle.words.specs.Trims.{without_front, trimmed_of, SamePieces}
+use Rattle.words.specs.Trims.{without_front, trimmed_of, TrimKeepsPieces}
 use Rattle.words.proofs.Cutting.{cuts_apart}
 
 module _ (sep : ℕ → Bool) where
@@ -23,7 +23,7 @@ module _ (sep : ℕ → Bool) where
       (λ stays. ap (λ l. pieces_of sep (reverse l)) (cond-false _ _ _ stays))
       (cases_Bool (sep r))
 
-  pub same_pieces : SamePieces sep
+  pub same_pieces : TrimKeepsPieces sep
   unfolding trimmed_of
   same_pieces bs =
       let kept = without_front sep bs in

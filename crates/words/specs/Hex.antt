@@ -32,8 +32,8 @@ abbrev pub written_u16 : ℕ → List ℕ
 written_u16 n = written_bytes (n / 256 ∷ n % 256 ∷ [])
 
 -- The laws of hexadecimal: what is written reads back.
-abbrev pub NumberReadsBack : Type 0
-NumberReadsBack = (n : ℕ) → n < 2 ^ 16 → hex_number_of (written_u16 n) ≡ Some n
+abbrev pub HexNumberReadsBack : Type 0
+HexNumberReadsBack = (n : ℕ) → n < 2 ^ 16 → hex_number_of (written_u16 n) ≡ Some n
 
-abbrev pub BytesReadBack : Type 0
-BytesReadBack = (bs : List ℕ) → AllByRecursion (λ b. b < 2 ^ 8) bs → bytes_of (written_bytes bs) ≡ Some bs
+abbrev pub HexBytesReadBack : Type 0
+HexBytesReadBack = (bs : List ℕ) → AllByRecursion (λ b. b < 2 ^ 8) bs → bytes_of (written_bytes bs) ≡ Some bs

@@ -1,10 +1,11 @@
 -- The decimal number that a word writes.
 use Rattle.std.specs.Prelude.{◌≡◌, ℕ, suc, ◌+◌, ◌-◌, ◌*◌, ◌≤◌, Bool, cond, ◌&&◌, List, [], ◌∷◌, length, Some, None, decimal, Option, nat_le, nat_lt, slice_index}
+use Rattle.std.specs.Char.{is_ascii_digit}
 use Rattle.std.specs.List.{list_all, fold}
 
 -- the bytes '0' to '9'
 abbrev pub is_digit : ℕ → Bool
-is_digit b = nat_le 48 b && nat_le b 57
+is_digit b = is_ascii_digit b
 
 abbrev pub all_digits : List ℕ → Bool
 all_digits bs = list_all is_digit bs
@@ -21,13 +22,9 @@ is_number limit w = nat_lt 0 (length w) && (all_digits w && nat_le (read_on 0 w)
 unfoldable pub number_of : ℕ → List ℕ → Option ℕ
 number_of limit w = cond (is_number limit w) (Some (read_on 0 w)) None
 
--- the number n with one more digit, up to the limit
-abbrev pub after_digit : ℕ → ℕ → ℕ → Option ℕ
-after_digit limit n b = cond (is_digit b && nat_le (10 * n + (b - 48)) limit) (Some (10 * n + (b - 48))) None
-
 -- The law of numbers: what is printed of a number up to the limit reads back as that number.
-abbrev pub ReadsBack : ℕ → Type 0
-ReadsBack limit = (n : ℕ) → n ≤ limit → number_of limit (decimal n) ≡ Some n
+abbrev pub DecimalReadsBack : ℕ → Type 0
+DecimalReadsBack limit = (n : ℕ) → n ≤ limit → number_of limit (decimal n) ≡ Some n
 
 -- a number that was read, before others
 abbrev pub number_before : Option ℕ → Option (List ℕ) → Option (List ℕ)

@@ -1,6 +1,7 @@
 -- Splitting bytes at a mark.
 use Rattle.std.specs.Prelude.{◌≡◌, ℕ, cond, List, [], ◌∷◌, ◌++◌, Some, None, Option, ◌==◌}
 use Rattle.std.specs.Borrow.{Bor}
+use Rattle.std.specs.Option.{option_map}
 
 -- what follows the mark, where bytes begin with it
 abbrev pub after_mark : List ℕ → List ℕ → Option (List ℕ)
@@ -10,8 +11,7 @@ after_mark (m ∷ ms) (b ∷ bs) = cond (m == b) (after_mark ms bs) None
 
 -- one byte more in front of a split
 abbrev pub longer : ℕ → Option (List ℕ × List ℕ) → Option (List ℕ × List ℕ)
-longer b None = None
-longer b (Some p) = Some (b ∷ p.0, p.1)
+longer b o = option_map (λ p. (b ∷ p.0, p.1)) o
 
 -- a mark found here goes before one found later
 abbrev pub split_here : ℕ → Option (List ℕ) → Option (List ℕ × List ℕ) → Option (List ℕ × List ℕ)
@@ -28,5 +28,5 @@ abbrev pub parts_of : Bor (List ℕ) × Bor (List ℕ) → List ℕ × List ℕ
 parts_of p = (p.0.now, p.1.now)
 
 -- The law of splitting: the parts, with the mark between them, are the bytes.
-abbrev pub Rejoins : Type 0
-Rejoins = (mark bs front back : List ℕ) → split_of mark bs ≡ Some (front, back) → bs ≡ front ++ (mark ++ back)
+abbrev pub SplitRejoins : Type 0
+SplitRejoins = (mark bs front back : List ℕ) → split_of mark bs ≡ Some (front, back) → bs ≡ front ++ (mark ++ back)

@@ -16,5 +16,5 @@ unfoldable pub trimmed_of : (ℕ → Bool) → List ℕ → List ℕ
 trimmed_of sep bs = without_back sep (without_front sep bs)
 
 -- The law of trimming: it changes none of the pieces.
-abbrev pub SamePieces : (ℕ → Bool) → Type 0
-SamePieces sep = (bs : List ℕ) → pieces_of sep (trimmed_of sep bs) ≡ pieces_of sep bs
+abbrev pub TrimKeepsPieces : (ℕ → Bool) → Type 0
+TrimKeepsPieces sep = (bs : List ℕ) → pieces_of sep (trimmed_of sep bs) ≡ pieces_of sep bs

@@ -1,6 +1,7 @@
 // The decimal number that a word writes.
 ghost use Rattle.std.specs.Prelude.{◌≡◌, ◌≤◌, map, IfSome};
-ghost use Rattle.words.specs.Numbers.{number_of, numbers_of, after_digit, Within, ReadsBack};
+ghost use Rattle.words.specs.Digits.{after_digit};
+ghost use Rattle.words.specs.Numbers.{number_of, numbers_of, Within, DecimalReadsBack};
 
 // The number that n becomes with one more digit, where the byte is a digit and the number is at most `most`.
 fn with_digit(n: u64, byte: u8, most: u64) -> Option<u64>
@@ -16,7 +17,7 @@ fn with_digit(n: u64, byte: u8, most: u64) -> Option<u64>
 pub fn number(word: &[u8], most: u64) -> Option<u64>
     ensures value { result ≡ number_of most word.now }
     ensures bound { IfSome result (λ n. n ≤ most) }
-    ensures reads_back { ReadsBack most }
+    ensures reads_back { DecimalReadsBack most }
 {
     if word.is_empty() {
         return None;

@@ -2,7 +2,7 @@
 ghost use Rattle.std.specs.Prelude.{◌≡◌, ◌++◌, IfOk, vec_items, OnOk};
 ghost use Rattle.std.specs.Option.{option_map};
 ghost use Rattle.hex.specs.Hex.{hex_digit_value};
-ghost use Rattle.words.specs.Hex.{bytes_of, hex_number_of, written_bytes, written_u16, NumberReadsBack, BytesReadBack};
+ghost use Rattle.words.specs.Hex.{bytes_of, hex_number_of, written_bytes, written_u16, HexNumberReadsBack, HexBytesReadBack};
 
 use hex::FromHexError;
 use std::alloc::{AllocError, Global};
@@ -44,7 +44,7 @@ pub fn hex_u16(word: &[u8]) -> Option<u16>
 #[tactic(auto, using(crate::proofs::HexDigits::bytes_read_back))]
 pub fn push_hex_bytes(out: &mut Vec<u8>, bytes: &[u8]) -> Result<(), AllocError>
     ensures made { OnOk result (out.new.items ≡ out.old.items ++ written_bytes bytes.now) }
-    ensures reads_back { BytesReadBack }
+    ensures reads_back { HexBytesReadBack }
 {
     let digits = hex::encode(*out.allocator(), bytes)?;
     out.extend_from_slice(digits.as_bytes())
@@ -54,7 +54,7 @@ pub fn push_hex_bytes(out: &mut Vec<u8>, bytes: &[u8]) -> Result<(), AllocError>
 #[tactic(auto, using(crate::proofs::HexDigits::number_reads_back))]
 pub fn push_hex_u16(out: &mut Vec<u8>, number: u16) -> Result<(), AllocError>
     ensures made { OnOk result (out.new.items ≡ out.old.items ++ written_u16 number) }
-    ensures reads_back { NumberReadsBack }
+    ensures reads_back { HexNumberReadsBack }
 {
     push_hex_bytes(out, &number.to_be_bytes())
 }

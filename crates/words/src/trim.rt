@@ -1,6 +1,6 @@
 // Bytes without the separators at their ends.
 ghost use Rattle.std.specs.Prelude.{◌≡◌};
-ghost use Rattle.words.specs.Trims.{without_front, without_back, trimmed_of, SamePieces};
+ghost use Rattle.words.specs.Trims.{without_front, without_back, trimmed_of, TrimKeepsPieces};
 
 use crate::cut::Separator;
 
@@ -38,7 +38,7 @@ fn trim_back<'a, S: Separator>(bytes: &'a [u8]) -> &'a [u8]
 #[tactic(auto, using(crate::proofs::Trimming::same_pieces), unfolding(crate::specs::Trims::trimmed_of))]
 pub fn trimmed<'a, S: Separator>(bytes: &'a [u8]) -> &'a [u8]
     ensures value { result.now ≡ trimmed_of S.Separator.separates bytes.now }
-    ensures same_pieces { SamePieces S.Separator.separates }
+    ensures same_pieces { TrimKeepsPieces S.Separator.separates }
 {
     trim_back::<S>(trim_front::<S>(bytes))
 }

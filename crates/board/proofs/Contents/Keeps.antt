@@ -8,10 +8,10 @@ use Rattle.board.specs.declared.row.RowKind.TheVariants.{Plain, Open, Close, End
 use Rattle.board.specs.declared.row.Row.{Row}
 use Rattle.board.specs.declared.row.Line.{Line}
 use Rattle.board.specs.declared.refusal.Refusal.{Refusal}
-use Rattle.board.specs.Refusals.{first_fault, unless}
+use Rattle.board.specs.Refusals.{first_refusal, unless}
 use Rattle.board.specs.Rows.{formed}
 use Rattle.board.specs.Content.{Content, new, Sound, SoundRow, SoundLine}
-use Rattle.board.specs.Calls.{size_fault, with_size, size_after, row_fault, with_row, row_after, line_faults, line_fault, with_line, line_after, reprice_fault, row_at_cost, line_at_cost, with_row_cost, with_line_cost, reprice_row_after, reprice_line_after, without_lines, CallsKeep}
+use Rattle.board.specs.Calls.{size_fault, with_size, size_after, row_fault, with_row, row_after, line_faults, line_fault, with_line, line_after, reprice_fault, row_at_cost, line_at_cost, with_row_cost, with_line_cost, reprice_row_after, reprice_line_after, without_lines, CallsKeepSound}
 use Rattle.board.proofs.Basics.Elements.{nth_push, nth_changed, nth_empty, length_changed, factors}
 
 -- where none of the reasons applies, the first does not, nor do the others
@@ -94,7 +94,7 @@ module _ (m : Meaning) where
         },
       )
 
-  pub line_sound_on : (c : Content) (l : Line) → first_fault (line_faults m c.moments l) ≡ None → SoundLine m c l
+  pub line_sound_on : (c : Content) (l : Line) → first_refusal (line_faults m c.moments l) ≡ None → SoundLine m c l
   line_sound_on c l e =
       let out = none_first _ _ _ e in
       let no_event = none_first _ _ _ out.1 in
@@ -190,7 +190,7 @@ module _ (m : Meaning) where
     sound_lines = λ i l e. absurd (none-some l e);
   }
 
-pub calls_keep : (m : Meaning) → CallsKeep m
+pub calls_keep : (m : Meaning) → CallsKeepSound m
 calls_keep m = record {
   begun = new_sound m;
   sized = size_keeps m;

@@ -215,7 +215,7 @@ module _ {m : Meaning} (laws : Lawful m) (l : Log) where
         let least-cost = place_costs s hs in
         record {
           within = omega arith;
-          unsettled = none;
+          unrecorded = none;
           below = cheaper_down laws _ _ _ here least-cost laws.worst_cost cheap k.below;
           first = λ p hp e.
               let t = p / 64 in

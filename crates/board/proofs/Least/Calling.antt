@@ -17,7 +17,7 @@ use Rattle.board.specs.Settling.{Record, Derivation, by_step, by_call, bare, cal
 use Rattle.board.specs.Logged.{derivation_of, record_of, records}
 use Rattle.board.specs.Logs.{numbered, nth_record, Ready, pair_of}
 use Rattle.board.specs.Minima.{Link, StandsFor}
-use Rattle.board.specs.Winning.{GoalOn, Makes, made, Wins, Finds, CallAt, CallsBy, CallsOpened, Calls, Gathered, TightAt, BracketRows, ServeIn, is_close, closes_to}
+use Rattle.board.specs.Winning.{GoalOn, Makes, made, Wins, Finds, IsCallAt, IsCallBy, IsCallOpenedBy, IsCall, Gathered, TightAt, BracketRows, ServeIn, is_close, closes_to}
 use Rattle.board.proofs.Paths.Standing.{leaves_on, enters_on}
 use Rattle.board.proofs.Basics.Laws.{no_dearer_same}
 use Rattle.board.proofs.Basics.Membership.{some_eq, none_some}
@@ -84,7 +84,7 @@ between_places {c = c} {l} ready p q hp hq i e =
     (f.0, number_eq c _ _ kept.from_on hp (omega arith), number_eq c _ _ kept.to_on hq (omega arith))
 
 module _ {m : Meaning} {c : Content} {l : Log} (laws : Lawful m) (ready : Ready m c l) (g : Goal) (on : GoalOn c g) where
-  pub call_parts : (o w t : ℕ) (y : Record) → Makes m c l g y → CallAt o w t y.derivation → CallParts m c l g o w t
+  pub call_parts : (o w t : ℕ) (y : Record) → Makes m c l g y → IsCallAt o w t y.derivation → CallParts m c l g o w t
   call_parts o w t y k d = call_of o w t k.candidate k.starts k.ends k.costs d
 
   -- an open row
@@ -153,12 +153,12 @@ module _ {m : Meaning} {c : Content} {l : Log} (laws : Lawful m) (ready : Ready 
 
     -- the list's first n give no call by a close row
     abbrev pub NoneWhile : ℕ → List ℕ → ℕ → Type 0
-    NoneWhile w xs n = (i : ℕ) → i < n → (t : ℕ) → t < c.moments → get_or xs i 0 ≡ place_number c (a.from, t) → Finds m c l g (CallAt o w t) None
+    NoneWhile w xs n = (i : ℕ) → i < n → (t : ℕ) → t < c.moments → get_or xs i 0 ≡ place_number c (a.from, t) → Finds m c l g (IsCallAt o w t) None
 
-    pub none_while_more : (w : ℕ) (xs : List ℕ) (n : ℕ) → NoneWhile w xs n → ((t : ℕ) → t < c.moments → get_or xs n 0 ≡ place_number c (a.from, t) → Finds m c l g (CallAt o w t) None) → NoneWhile w xs (n + 1)
-    none_while_more w xs n old new i h = ⊎_elim (λ (e : i ≡ n). subst (λ (j : ℕ). (t : ℕ) → t < c.moments → get_or xs j 0 ≡ place_number c (a.from, t) → Finds m c l g (CallAt o w t) None) (sym e) new) (λ (z : i ≡ n → ⊥). old i (omega arith)) (cases_eq i n)
+    pub none_while_more : (w : ℕ) (xs : List ℕ) (n : ℕ) → NoneWhile w xs n → ((t : ℕ) → t < c.moments → get_or xs n 0 ≡ place_number c (a.from, t) → Finds m c l g (IsCallAt o w t) None) → NoneWhile w xs (n + 1)
+    none_while_more w xs n old new i h = ⊎_elim (λ (e : i ≡ n). subst (λ (j : ℕ). (t : ℕ) → t < c.moments → get_or xs j 0 ≡ place_number c (a.from, t) → Finds m c l g (IsCallAt o w t) None) (sym e) new) (λ (z : i ≡ n → ⊥). old i (omega arith)) (cases_eq i n)
 
-    pub none_reached : (xs : List ℕ) → Gathered (TightAt m c l g) 64 xs → (n : ℕ) → length xs ≤ n → ((w : ℕ) → NoneWhile w xs n) → Finds m c l g (CallsOpened o) None
+    pub none_reached : (xs : List ℕ) → Gathered (TightAt m c l g) 64 xs → (n : ℕ) → length xs ≤ n → ((w : ℕ) → NoneWhile w xs n) → Finds m c l g (IsCallOpenedBy o) None
     none_reached xs all n h old y k (w, (t, d)) = let x = call_parts o w t y k d in let f = listed xs all x in let f1 = f.1 in old w f.0 (omega arith) t (moment_in x) f.2 y k d
 
     -- another mode
@@ -170,7 +170,7 @@ module _ {m : Meaning} {c : Content} {l : Log} (laws : Lawful m) (ready : Ready 
     same_moment xs n p number_is there t h e = ap (λ (z : Place). moment z) (place_unique c p (a.from, t) there h (number_is ∙ e))
 
     -- no front there
-    pub reaches_no_front : (p : Place) → get_or l.index (pair_of c g.from p) None ≡ None → (w t : ℕ) → p ≡ (a.from, t) → Finds m c l g (CallAt o w t) None
+    pub reaches_no_front : (p : Place) → get_or l.index (pair_of c g.from p) None ≡ None → (w t : ℕ) → p ≡ (a.from, t) → Finds m c l g (IsCallAt o w t) None
     reaches_no_front p e w t is y k d = none_some _ _ e (ap (λ (z : Place). get_or l.index (pair_of c g.from z) None) is ∙ front_index (call_parts o w t y k d))
 
     -- no close row of the list reaches it from there
@@ -182,7 +182,7 @@ module _ {m : Meaning} {c : Content} {l : Log} (laws : Lawful m) (ready : Ready 
       pub none_by_more : (xs : List ℕ) (n : ℕ) → NoneBy xs n → ((w : ℕ) (x : CallParts m c l g o w t) → StandsFor m c x.closes.by (get_or xs n 0) → ⊥) → NoneBy xs (n + 1)
       none_by_more xs n old new k h = ⊎_elim (λ (e : k ≡ n). subst (λ (j : ℕ). (w : ℕ) (x : CallParts m c l g o w t) → StandsFor m c x.closes.by (get_or xs j 0) → ⊥) (sym e) new) (λ (z : k ≡ n → ⊥). old k (omega arith)) (cases_eq k n)
 
-      pub none_by_all : (xs : List ℕ) → ServeIn m c a.label (mode g.to) xs → (n : ℕ) → length xs ≤ n → NoneBy xs n → (w : ℕ) → Finds m c l g (CallAt o w t) None
+      pub none_by_all : (xs : List ℕ) → ServeIn m c a.label (mode g.to) xs → (n : ℕ) → length xs ≤ n → NoneBy xs n → (w : ℕ) → Finds m c l g (IsCallAt o w t) None
       none_by_all xs serve n h old w y k d =
           let x = call_parts o w t y k d in
           let z = close_kind _ _ _ x.closes.does in
@@ -231,21 +231,21 @@ module _ {m : Meaning} {c : Content} {l : Log} (laws : Lawful m) (ready : Ready 
       inside_there : {t : ℕ} (x : CallParts m c l g o w t) → get_or l.index (pair_of c (a.to, t) (b.from, moment g.to)) None ≡ Some x.inside
       inside_there x = inside_index x _ (inside_to x)
 
-      pub call_no_front : (t : ℕ) → get_or l.index (pair_of c g.from (a.from, t)) None ≡ None → Finds m c l g (CallAt o w t) None
+      pub call_no_front : (t : ℕ) → get_or l.index (pair_of c g.from (a.from, t)) None ≡ None → Finds m c l g (IsCallAt o w t) None
       call_no_front t e y k d = none_some _ _ e (front_index (call_parts o w t y k d))
 
-      pub call_no_inside : (t : ℕ) → get_or l.index (pair_of c (a.to, t) (b.from, moment g.to)) None ≡ None → Finds m c l g (CallAt o w t) None
+      pub call_no_inside : (t : ℕ) → get_or l.index (pair_of c (a.to, t) (b.from, moment g.to)) None ≡ None → Finds m c l g (IsCallAt o w t) None
       call_no_inside t e y k d = none_some _ _ e (inside_there (call_parts o w t y k d))
 
       module _ (t i j : ℕ) (there : t < c.moments) (at : get_or l.index (pair_of c g.from (a.from, t)) None ≡ Some i) (at' : get_or l.index (pair_of c (a.to, t) (b.from, moment g.to)) None ≡ Some j) where
-        pub call_no_cost : (m.join (m.join (m.join (numbered l i).cost a.cost) (numbered l j).cost) b.cost ≡ g.cost → ⊥) → Finds m c l g (CallAt o w t) None
+        pub call_no_cost : (m.join (m.join (m.join (numbered l i).cost a.cost) (numbered l j).cost) b.cost ≡ g.cost → ⊥) → Finds m c l g (IsCallAt o w t) None
         call_no_cost far y k d =
             let x = call_parts o w t y k d in
             let ei : i ≡ x.front = some_eq _ _ _ at (front_index x) in
             let ej : j ≡ x.inside = some_eq _ _ _ at' (inside_there x) in
             far ((λ z. m.join (m.join (m.join (numbered l (ei z)).cost (sym (bracket_price o a row_is x.opens) z)) (numbered l (ej z)).cost) (sym (bracket_price w b rows.closing x.closes) z)) ∙ x.costs)
 
-        pub call_wins : m.join (m.join (m.join (numbered l i).cost a.cost) (numbered l j).cost) b.cost ≡ g.cost → Wins m c l g (CallAt o w t) (Call i j o w t)
+        pub call_wins : m.join (m.join (m.join (numbered l i).cost a.cost) (numbered l j).cost) b.cost ≡ g.cost → Wins m c l g (IsCallAt o w t) (Call i j o w t)
         call_wins costs =
             let fi = between_places ready g.from (a.from, t) on.0 (leaves_on ready.sound o a row_is t there) i at in
             let fj = between_places ready (a.to, t) (b.from, moment g.to) (enters_on ready.sound o a row_is t there) (leaves_on ready.sound w b rows.closing _ on.1.1) j at' in
@@ -270,11 +270,11 @@ module _ {m : Meaning} {c : Content} {l : Log} (laws : Lawful m) (ready : Ready 
             }
 
       -- the earliest
-      pub call_none_by : (xs : List ℕ) → Gathered (TightAt m c l g) 64 xs → (n : ℕ) → length xs ≤ n → NoneWhile w xs n → Finds m c l g (CallsBy o w) None
+      pub call_none_by : (xs : List ℕ) → Gathered (TightAt m c l g) 64 xs → (n : ℕ) → length xs ≤ n → NoneWhile w xs n → Finds m c l g (IsCallBy o w) None
       call_none_by xs all n h old y k (t, d) = let x = call_parts o w t y k d in let f = listed xs all x in let f1 = f.1 in old f.0 (omega arith) t (moment_in x) f.2 y k d
 
-      pub call_wins_by : (xs : List ℕ) → Gathered (TightAt m c l g) 64 xs → (n : ℕ) (p : Place) (s : LogDerivation) → n < length xs → place_number c p ≡ get_or xs n 0 → moment p < c.moments → mode p ≡ a.from → NoneWhile w xs n → Wins m c l g (CallAt o w (moment p)) s → Wins m c l g (CallsBy o w) s
-      call_wins_by xs all n p s hn number_is there from old wins = wins_more m c l g (CallAt o w (moment p)) (CallsBy o w) s wins (moment p, wins.one) (λ y k q.
+      pub call_wins_by : (xs : List ℕ) → Gathered (TightAt m c l g) 64 xs → (n : ℕ) (p : Place) (s : LogDerivation) → n < length xs → place_number c p ≡ get_or xs n 0 → moment p < c.moments → mode p ≡ a.from → NoneWhile w xs n → Wins m c l g (IsCallAt o w (moment p)) s → Wins m c l g (IsCallBy o w) s
+      call_wins_by xs all n p s hn number_is there from old wins = wins_more m c l g (IsCallAt o w (moment p)) (IsCallBy o w) s wins (moment p, wins.one) (λ y k q.
           let x = call_parts o w q.0 y k q.1 in
           let f = listed xs all x in
           ⊎_elim
@@ -295,7 +295,7 @@ module _ {m : Meaning} {c : Content} {l : Log} (laws : Lawful m) (ready : Ready 
         let p2 = and_parts _ _ p1.1 in
         record { opening = row_is; closing = e; opens = opens; closes = close_is _ p1.0; same = eqb-true _ _ p2.0; enters = eqb-true _ _ p2.1 }
 
-    pub no_bracket : (w : ℕ) (b : Row) → slice_get c.rows w ≡ Some b → closes_to b a.label (mode g.to) ≡ false → Finds m c l g (CallsBy o w) None
+    pub no_bracket : (w : ℕ) (b : Row) → slice_get c.rows w ≡ Some b → closes_to b a.label (mode g.to) ≡ false → Finds m c l g (IsCallBy o w) None
     no_bracket w b e f y k (t, d) =
         let x = call_parts o w t y k d in
         let z = close_kind b.kind x.bracket b.label (bracket_does w b e x.closes) in
@@ -304,28 +304,28 @@ module _ {m : Meaning} {c : Content} {l : Log} (laws : Lawful m) (ready : Ready 
 
 -- a call's rows, in their order
 module _ (m : Meaning) (c : Content) (l : Log) (g : Goal) where
-  pub no_close : (o w : ℕ) → slice_get c.rows w ≡ None → Finds m c l g (CallsBy o w) None
+  pub no_close : (o w : ℕ) → slice_get c.rows w ≡ None → Finds m c l g (IsCallBy o w) None
   no_close o w e y k (t, d) = let x : CallParts m c l g o w t = call_of o w t k.candidate k.starts k.ends k.costs d in none_some _ _ e x.closes.found
 
-  pub no_open : (o : ℕ) → ((a : Row) → slice_get c.rows o ≡ Some a → a.kind ≡ Open → ⊥) → Finds m c l g (CallsOpened o) None
+  pub no_open : (o : ℕ) → ((a : Row) → slice_get c.rows o ≡ Some a → a.kind ≡ Open → ⊥) → Finds m c l g (IsCallOpenedBy o) None
   no_open o none y k (w, (t, d)) =
       let x : CallParts m c l g o w t = call_of o w t k.candidate k.starts k.ends k.costs d in
       none x.opens.by x.opens.found (open_kind x.opens.by.kind x.bracket x.opens.by.label x.opens.does).0
 
   abbrev pub NoCloseBelow : ℕ → ℕ → Type 0
-  NoCloseBelow o n = (i : ℕ) → i < n → Finds m c l g (CallsBy o i) None
+  NoCloseBelow o n = (i : ℕ) → i < n → Finds m c l g (IsCallBy o i) None
 
-  pub no_close_more : (o n : ℕ) → NoCloseBelow o n → Finds m c l g (CallsBy o n) None → NoCloseBelow o (n + 1)
-  no_close_more o n old new i h = ⊎_elim (λ (e : i ≡ n). subst (λ (j : ℕ). Finds m c l g (CallsBy o j) None) (sym e) new) (λ (w : i ≡ n → ⊥). old i (omega arith)) (cases_eq i n)
+  pub no_close_more : (o n : ℕ) → NoCloseBelow o n → Finds m c l g (IsCallBy o n) None → NoCloseBelow o (n + 1)
+  no_close_more o n old new i h = ⊎_elim (λ (e : i ≡ n). subst (λ (j : ℕ). Finds m c l g (IsCallBy o j) None) (sym e) new) (λ (w : i ≡ n → ⊥). old i (omega arith)) (cases_eq i n)
 
-  pub no_close_left : (o n : ℕ) → length c.rows ≤ n → NoCloseBelow o n → Finds m c l g (CallsOpened o) None
+  pub no_close_left : (o n : ℕ) → length c.rows ≤ n → NoCloseBelow o n → Finds m c l g (IsCallOpenedBy o) None
   no_close_left o n h old y k (w, (t, d)) =
       let x : CallParts m c l g o w t = call_of o w t k.candidate k.starts k.ends k.costs d in
       let r = goes_row x.closes in
       old w (omega arith) y k (t, d)
 
-  pub first_close : (o n : ℕ) (s : LogDerivation) → NoCloseBelow o n → Wins m c l g (CallsBy o n) s → Wins m c l g (CallsOpened o) s
-  first_close o n s old w = wins_more m c l g (CallsBy o n) (CallsOpened o) s w (n, w.one) (λ y k q. ⊎_elim
+  pub first_close : (o n : ℕ) (s : LogDerivation) → NoCloseBelow o n → Wins m c l g (IsCallBy o n) s → Wins m c l g (IsCallOpenedBy o) s
+  first_close o n s old w = wins_more m c l g (IsCallBy o n) (IsCallOpenedBy o) s w (n, w.one) (λ y k q. ⊎_elim
       (λ (h : q.0 < n). absurd (old q.0 h y k q.1))
       (λ (h : n ≤ q.0). ⊎_elim
       (λ (e : q.0 ≡ n). inl (q.1.0, q.1.1 ∙ ap (λ (z : ℕ). by_call o z q.1.0) e))
@@ -334,19 +334,19 @@ module _ (m : Meaning) (c : Content) (l : Log) (g : Goal) where
       (cases_lt q.0 n))
 
   abbrev pub NoOpenBelow : ℕ → Type 0
-  NoOpenBelow n = (i : ℕ) → i < n → Finds m c l g (CallsOpened i) None
+  NoOpenBelow n = (i : ℕ) → i < n → Finds m c l g (IsCallOpenedBy i) None
 
-  pub no_open_more : (n : ℕ) → NoOpenBelow n → Finds m c l g (CallsOpened n) None → NoOpenBelow (n + 1)
-  no_open_more n old new i h = ⊎_elim (λ (e : i ≡ n). subst (λ (j : ℕ). Finds m c l g (CallsOpened j) None) (sym e) new) (λ (w : i ≡ n → ⊥). old i (omega arith)) (cases_eq i n)
+  pub no_open_more : (n : ℕ) → NoOpenBelow n → Finds m c l g (IsCallOpenedBy n) None → NoOpenBelow (n + 1)
+  no_open_more n old new i h = ⊎_elim (λ (e : i ≡ n). subst (λ (j : ℕ). Finds m c l g (IsCallOpenedBy j) None) (sym e) new) (λ (w : i ≡ n → ⊥). old i (omega arith)) (cases_eq i n)
 
-  pub no_open_left : (n : ℕ) → length c.rows ≤ n → NoOpenBelow n → Finds m c l g Calls None
+  pub no_open_left : (n : ℕ) → length c.rows ≤ n → NoOpenBelow n → Finds m c l g IsCall None
   no_open_left n h old y k (o, (w, (t, d))) =
       let x : CallParts m c l g o w t = call_of o w t k.candidate k.starts k.ends k.costs d in
       let r = goes_row x.opens in
       old o (omega arith) y k (w, (t, d))
 
-  pub first_open : (n : ℕ) (s : LogDerivation) → NoOpenBelow n → Wins m c l g (CallsOpened n) s → Wins m c l g Calls s
-  first_open n s old w = wins_more m c l g (CallsOpened n) Calls s w (n, w.one) (λ y k q. ⊎_elim
+  pub first_open : (n : ℕ) (s : LogDerivation) → NoOpenBelow n → Wins m c l g (IsCallOpenedBy n) s → Wins m c l g IsCall s
+  first_open n s old w = wins_more m c l g (IsCallOpenedBy n) IsCall s w (n, w.one) (λ y k q. ⊎_elim
       (λ (h : q.0 < n). absurd (old q.0 h y k q.1))
       (λ (h : n ≤ q.0). ⊎_elim
       (λ (e : q.0 ≡ n). inl (q.1.0, (q.1.1.0, q.1.1.1 ∙ ap (λ (z : ℕ). by_call z q.1.0 q.1.1.0) e)))

@@ -11,7 +11,7 @@ use Rattle.board.specs.declared.settling.Goal.{Goal}
 use Rattle.board.specs.Content.{Content, Sound}
 use Rattle.board.specs.Moves.{place_number}
 use Rattle.board.specs.Logs.{numbered, Ready}
-use Rattle.board.specs.Lowering.{Attained, Bounds}
+use Rattle.board.specs.Lowering.{Attained, LowerBound}
 use Rattle.board.specs.Minima.{Link, StandsFor, Led}
 use Rattle.board.specs.Winning.{Gathered, LineTo, TightAt, GoalOn, Serve, ServeIn, is_close}
 use Rattle.board.proofs.Basics.Membership.{some_eq, none_some}
@@ -90,7 +90,7 @@ module _ {m : Meaning} {c : Content} {l : Log} (laws : Lawful m) (ready : Ready 
     pub tight_none : get_or l.index (place_number c goal.from * 64 + r) None ≡ None → Gathered (TightAt m c l goal) (r + 1) xs
     tight_none e = gathered_skip g (λ p. none_some _ _ e (tight_index p))
 
-    pub tight_dear : (links : List ℕ) (i : ℕ) → length links ≡ 4096 → Attained m (Link m c l) links → Bounds m (Link m c l) links → get_or l.index (place_number c goal.from * 64 + r) None ≡ Some i → m.no_dearer (m.join (numbered l i).cost (get_or links (r * 64 + place_number c goal.to) 0)) goal.cost ≡ false → Cost m goal.cost → Gathered (TightAt m c l goal) (r + 1) xs
+    pub tight_dear : (links : List ℕ) (i : ℕ) → length links ≡ 4096 → Attained m (Link m c l) links → LowerBound m (Link m c l) links → get_or l.index (place_number c goal.from * 64 + r) None ≡ Some i → m.no_dearer (m.join (numbered l i).cost (get_or links (r * 64 + place_number c goal.to) 0)) goal.cost ≡ false → Cost m goal.cost → Gathered (TightAt m c l goal) (r + 1) xs
     tight_dear links i long attained bounds e dear goal-cost = gathered_skip g (λ p.
         let same : i ≡ p.front = some_eq _ _ _ e (tight_index p) in
         let a = record_cost laws ready p.front p.front_in in

@@ -2,7 +2,7 @@
 use Rattle.std.proofs.Common.{◌≡◌, ℕ, ◌+◌, ◌<◌, ◌≤◌, Bool, true, false, cond, ◌⊎◌, List, length, get_or, set, sym, refl, ap, ◌∙◌, subst, inl, inr, ⊎_elim, arith, length-set, get_or-set_other, get_or-set_same}
 use Rattle.std.proofs.lemmas.Bool.{cases_eq}
 use Rattle.costs.specs.Meaning.{Meaning, Lawful, Cost, NoDearer}
-use Rattle.board.specs.Lowering.{Costing, Attained, Bounds, lowered, Lowered, Among, Just}
+use Rattle.board.specs.Lowering.{Costing, Attained, LowerBound, lowered, Lowered, Among, Just}
 use Rattle.board.proofs.Basics.Laws.{no_dearer_same, cheaper_no_dearer}
 
 module _ {m : Meaning} {R : Costing} where
@@ -50,7 +50,7 @@ module _ {m : Meaning} (laws : Lawful m) {R : Costing} (priced : (p k : ℕ) →
   pub lowered_one : (xs ys : List ℕ) (p k : ℕ) → Attained m R xs → p < length xs → (k ≡ m.worst) ⊎ R p k → ys ≡ lowered m xs p k → Lowered m R xs ys (Just p k)
   lowered_one xs ys p k a h r e = subst (λ (zs : List ℕ). Lowered m R xs zs (Just p k)) (sym e) (by (m.no_dearer (get_or xs p 0) k) refl)
     where
-      at : (zs : List ℕ) → NoDearer m (get_or zs p 0) k → Bounds m (Just p k) zs
+      at : (zs : List ℕ) → NoDearer m (get_or zs p 0) k → LowerBound m (Just p k) zs
       at zs n p' k' (f, g) = subst (λ (i : ℕ). NoDearer m (get_or zs i 0) k') (sym f) (subst (NoDearer m (get_or zs p 0)) (sym g) n)
 
       put : (q : ℕ) (C : ℕ → Type 0) → (q ≡ p → C k) → C (get_or xs q 0) → C (get_or (set xs p k) q 0)

@@ -14,8 +14,8 @@ use Rattle.board.specs.Moves.{Place, moment, On, place_number, Transition}
 use Rattle.board.specs.Settling.{Record, Derivation, bare, Candidate, step, call, Cheaper, Lex, key, derivation_key, Precedes, Unrecorded, Round}
 use Rattle.board.specs.Logged.{record_of, records}
 use Rattle.board.specs.Logs.{numbered, nth_record, Kept, pair_of}
-use Rattle.board.specs.Minima.{Link, CandidateAt, State}
-use Rattle.board.specs.Winning.{LeastPair, LeastOf, GoalOn, Makes, made, Wins, Finds, Any, Steps, Calls}
+use Rattle.board.specs.Minima.{Link, CandidateAt, SettlingInvariant}
+use Rattle.board.specs.Winning.{LeastPair, LeastOf, GoalOn, Makes, made, Wins, Finds, Any, IsStep, IsCall}
 use Rattle.board.proofs.Basics.Membership.{none_some}
 use Rattle.board.proofs.Basics.Laws.{no_dearer_same, cheaper_or}
 use Rattle.board.proofs.Rounds.Minimal.{candidate_cost}
@@ -31,22 +31,22 @@ use Rattle.board.proofs.Least.Links.{all_priced, link_cost, record_cost, candida
 use Rattle.board.proofs.Least.Winning.{wins_more}
 
 -- a candidate is a step or a call
-pub step_or_call : {m : Meaning} {c : Content} {log : List Record} {y : Record} → Candidate m c log y → Steps y.derivation ⊎ Calls y.derivation
+pub step_or_call : {m : Meaning} {c : Content} {log : List Record} {y : Record} → Candidate m c log y → IsStep y.derivation ⊎ IsCall y.derivation
 step_or_call (step a {v} i t) = inl (v, refl)
 step_or_call (call a b {o} {w} i t j u) = inr (o.row, (w.row, (_, refl)))
 
 -- the first step wins, and where there is none the first call
 module _ (m : Meaning) (c : Content) (l : Log) (g : Goal) where
-  pub step_wins_all : (s : LogDerivation) → Wins m c l g Steps s → Wins m c l g Any s
-  step_wins_all s w = wins_more m c l g Steps Any s w tt (λ y k q. ⊎_elim (λ p. inl p) (λ p. inr (subst₂ (λ (x z : Derivation). Lex (derivation_key x) (derivation_key z)) (sym w.one.1) (sym p.1.1.1) (inl (omega arith)))) (step_or_call k.candidate))
+  pub step_wins_all : (s : LogDerivation) → Wins m c l g IsStep s → Wins m c l g Any s
+  step_wins_all s w = wins_more m c l g IsStep Any s w tt (λ y k q. ⊎_elim (λ p. inl p) (λ p. inr (subst₂ (λ (x z : Derivation). Lex (derivation_key x) (derivation_key z)) (sym w.one.1) (sym p.1.1.1) (inl (omega arith)))) (step_or_call k.candidate))
 
-  pub call_wins_all : (s : LogDerivation) → Finds m c l g Steps None → Wins m c l g Calls s → Wins m c l g Any s
-  call_wins_all s none w = wins_more m c l g Calls Any s w tt (λ y k q. ⊎_elim (λ p. absurd (none y k p)) (λ p. inl p) (step_or_call k.candidate))
+  pub call_wins_all : (s : LogDerivation) → Finds m c l g IsStep None → Wins m c l g IsCall s → Wins m c l g Any s
+  call_wins_all s none w = wins_more m c l g IsCall Any s w tt (λ y k q. ⊎_elim (λ p. absurd (none y k p)) (λ p. inl p) (step_or_call k.candidate))
 
-  pub none_makes : Finds m c l g Steps None → Finds m c l g Calls None → (y : Record) → Makes m c l g y → ⊥
+  pub none_makes : Finds m c l g IsStep None → Finds m c l g IsCall None → (y : Record) → Makes m c l g y → ⊥
   none_makes steps calls y k = ⊎_elim (steps y k) (calls y k) (step_or_call k.candidate)
 
-module _ {m : Meaning} {c : Content} {l : Log} {s : Minima} (laws : Lawful m) (state : State m c l s) where
+module _ {m : Meaning} {c : Content} {l : Log} {s : Minima} (laws : Lawful m) (state : SettlingInvariant m c l s) where
   pub waiting_costs : (p : ℕ) → p < 4096 → Cost m (get_or s.waiting.costs p 0)
   waiting_costs p h = attained_cost laws (candidate_cost_at laws state.ready) s.waiting.costs state.linked.held_waiting.attained p (omega (arith, state.linked.held_waiting.long))
 
@@ -150,7 +150,7 @@ module _ {m : Meaning} {c : Content} {l : Log} {s : Minima} (laws : Lawful m) (s
     goal_pair = ap₂ (λ (x y : Place). pair_of c x y) found_from found_to ∙ sym found.at
 
     pub goal_fresh : get_or l.index (pair_of c g.from g.to) None ≡ None
-    goal_fresh = ap (λ (n : ℕ). get_or l.index n None) goal_pair ∙ k.unsettled
+    goal_fresh = ap (λ (n : ℕ). get_or l.index n None) goal_pair ∙ k.unrecorded
 
     module _ (src : LogDerivation) (wins : Wins m c l g Any src) where
       pub goal_kept : Kept m c (made g src)
@@ -193,7 +193,7 @@ module _ {m : Meaning} {c : Content} {l : Log} {s : Minima} (laws : Lawful m) (s
       pub round_is : Round m c (records l) (record_of (records l) (made g src))
       round_is = record {
         candidate = wins.makes.candidate;
-        unsettled = λ a h e f. let r = logged_in l.records l.count a h in
+        unrecorded = λ a h e f. let r = logged_in l.records l.count a h in
             none_some _ _ goal_fresh (ap₂ (λ (x y : Place). get_or l.index (pair_of c x y) None) (sym e) (sym f) ∙ (ap (λ (z : Record). get_or l.index (pair_of c z.from z.to) None) r.2 ∙ state.ready.book.found r.0 r.1));
         below = subst (λ (n : ℕ). Cheaper m n m.worst) (sym cost_is) k.below;
         first = goes_first;

@@ -13,8 +13,8 @@ use Rattle.board.specs.Moves.{On, place_number}
 use Rattle.board.specs.Settling.{Record, Candidate}
 use Rattle.board.specs.Logged.{spelled, record_of, records}
 use Rattle.board.specs.Logs.{numbered, Kept, Ready, pushed, empty, Refers, pair_of}
-use Rattle.board.specs.Lowering.{Costing, Attained, Bounds, Lowered}
-use Rattle.board.specs.Minima.{PlainLink, Bracketed, BracketedBy, BracketedIn, Link, CandidateAt, Followed, Linked, PlaceLeast, PlacesLeast, Led, State}
+use Rattle.board.specs.Lowering.{Costing, Attained, LowerBound, Lowered}
+use Rattle.board.specs.Minima.{PlainLink, Bracketed, BracketedBy, BracketedIn, Link, CandidateAt, Followed, Linked, PlaceLeast, PlacesLeast, Led, SettlingInvariant}
 use Rattle.board.proofs.Basics.Laws.{no_dearer_eq, join_no_dearer}
 use Rattle.board.proofs.Paths.Decomposing.{transition_cost}
 use Rattle.board.proofs.Basics.Numbers.{number_in}
@@ -70,13 +70,13 @@ module _ {m : Meaning} {c : Content} {l l' : Log} {r : LogRecord} (laws : Lawful
       (λ (n : i ≡ l.count → ⊥). let k : i < l.count = omega (arith, x.count) in subst P (sym (x.old i k)) (old i k))
       (cases_eq i l.count)
 
-  module _ {s : Minima} (state : State m c l s) where
+  module _ {s : Minima} (state : SettlingInvariant m c l s) where
     -- after the new record is followed
     pub linked_stays : (waits : Waiting) → Lowered m (CandidateAt m c l') s.waiting.costs waits.costs (Followed m c s.links (numbered l' l.count)) → PlacesLeast m l' waits → Linked m c l' s.links waits
     linked_stays waits w places = record {
       held_links = record { long = state.linked.held_links.long; attained = links_stay s.links state.linked.held_links.attained };
       held_waiting = record { long = w.long ∙ state.linked.held_waiting.long; attained = w.attained; least = places };
-      followed = by_record (λ (a : LogRecord). Bounds m (Followed m c s.links a) waits.costs) w.bounds (λ i h p k z.
+      followed = by_record (λ (a : LogRecord). LowerBound m (Followed m c s.links a) waits.costs) w.bounds (λ i h p k z.
           let fits = follow_fits laws state.ready s.links state.linked.held_links.long state.linked.held_links.attained i h s.waiting.costs state.linked.held_waiting.long 64 p k (omega arith) z in
           let fits0 = fits.0 in
           laws.trans _ _ _ (attained_cost laws (candidate_cost_at laws x.ready) waits.costs w.attained p (omega (arith, w.long))) (attained_cost laws (candidate_cost_at laws state.ready) s.waiting.costs state.linked.held_waiting.attained p fits.0) fits.1 (w.lower p fits.0) (state.linked.followed i h p k z));
@@ -128,11 +128,11 @@ module _ {m : Meaning} {c : Content} {l l' : Log} {r : LogRecord} (laws : Lawful
           laws.trans _ _ _ (attained_cost laws (link_cost laws x.ready) links linked.attained p (omega (arith, linked.long, state.linked.held_links.long))) (attained_cost laws (link_cost laws state.ready) s.links state.linked.held_links.attained p (omega (arith, state.linked.held_links.long))) (link_cost laws state.ready p k z) (linked.lower p (omega (arith, state.linked.held_links.long))) (state.links_bounds p k z)
 
       -- all links of the new log are bounded
-      links_all : Bounds m (Link m c l') links
+      links_all : LowerBound m (Link m c l') links
       links_all p k (inl z) = as_before p k (inl z)
       links_all p k (inr (j, h, o, w, z)) = by_record (λ (b : LogRecord). BracketedBy m c b o w p k → NoDearer m (get_or links p 0) k) (around_new o w p k) (λ i hi y. as_before p k (inr (i, hi, o, w, y))) j h z
 
-      pub state_more : (waits : Waiting) → Linked m c l' links waits → State m c l' (record { links = links; waiting = waits; leads = s.leads })
+      pub state_more : (waits : Waiting) → Linked m c l' links waits → SettlingInvariant m c l' (record { links = links; waiting = waits; leads = s.leads })
       state_more waits ok = record {
         ready = x.ready;
         linked = ok;
@@ -146,8 +146,8 @@ module _ {m : Meaning} {c : Content} (laws : Lawful m) (sound : Sound m c) where
   no_bracketed : (p k : ℕ) → Bracketed m c empty p k → ⊥
   no_bracketed p k (j, h, o, w, z) = omega arith
 
-  pub empty_state : (l : Log) (b d : ℕ) (links : List ℕ) (leads : List Bool) → l ≡ empty → b ≡ m.worst → d ≡ m.worst → Attained m (PlainLink m c) links → Bounds m (PlainLink m c) links → length links ≡ 4096 → Led m c leads → length leads ≡ 128 → State m c l (record { links = links; waiting = record { costs = replicate 4096 b; least = replicate 64 d }; leads = leads })
-  empty_state l b d links leads e hb hd attained bounds long led leads-long = subst (λ (x : Log). State m c x (record { links = links; waiting = record { costs = replicate 4096 b; least = replicate 64 d }; leads = leads })) (sym e) (record {
+  pub empty_state : (l : Log) (b d : ℕ) (links : List ℕ) (leads : List Bool) → l ≡ empty → b ≡ m.worst → d ≡ m.worst → Attained m (PlainLink m c) links → LowerBound m (PlainLink m c) links → length links ≡ 4096 → Led m c leads → length leads ≡ 128 → SettlingInvariant m c l (record { links = links; waiting = record { costs = replicate 4096 b; least = replicate 64 d }; leads = leads })
+  empty_state l b d links leads e hb hd attained bounds long led leads-long = subst (λ (x : Log). SettlingInvariant m c x (record { links = links; waiting = record { costs = replicate 4096 b; least = replicate 64 d }; leads = leads })) (sym e) (record {
     ready = record { sound = sound; book = empty_book m c };
     linked = record {
       held_links = record { long = long; attained = λ p h. ⊎_elim (λ z. inl z) (λ z. inr (inl z)) (attained p h) };

@@ -23,7 +23,7 @@ use Rattle.board.specs.Computing.{same_place}
 use Rattle.board.specs.Settling.{Record, Derivation, by_step, by_call, bare, step_record, Candidate, step, call, derivation_key, Lex}
 use Rattle.board.specs.Logged.{derivation_of, record_of, records}
 use Rattle.board.specs.Logs.{numbered, nth_record, Ready, pair_of}
-use Rattle.board.specs.Winning.{GoalOn, Makes, made, Wins, Finds, StepOf, StepsBy, Steps, Gathered, LineTo}
+use Rattle.board.specs.Winning.{GoalOn, Makes, made, Wins, Finds, IsStepOf, IsStepBy, IsStep, Gathered, LineTo}
 use Rattle.board.proofs.Paths.Standing.{leaves_on}
 use Rattle.board.proofs.Basics.Membership.{some_eq, none_some}
 use Rattle.board.proofs.Paths.Transitions.{arrival_transition, transition_arrival}
@@ -66,7 +66,7 @@ step_of {m} {c} {l} {g} v (step a {v = w} {q} {k} i t) s e f d =
 step_of {l = l} v (call a b {o} {w} i t j u) s e f d = let z : by_call o.row w.row (moment a.to) ≡ by_step v = d in absurd cc
 
 module _ {m : Meaning} {c : Content} {l : Log} (laws : Lawful m) (ready : Ready m c l) (g : Goal) (on : GoalOn c g) where
-  pub step_front : (v : Move) (y : Record) → Makes m c l g y → StepOf v y.derivation → StepFront m c l g v
+  pub step_front : (v : Move) (y : Record) → Makes m c l g y → IsStepOf v y.derivation → StepFront m c l g v
   step_front v y k d = step_of v k.candidate k.starts k.ends k.costs d
 
   -- what the index has between where the goal starts and a place
@@ -90,27 +90,27 @@ module _ {m : Meaning} {c : Content} {l : Log} (laws : Lawful m) (ready : Ready 
     step_arrives : (x : StepFront m c l g v) → arrival_on m c v place ≡ Some (record { to = g.to; cost = x.price; effect = Quiet })
     step_arrives x = ap (arrival_on m c v) (sym (alone _ _ x.goes)) ∙ transition_arrival m c v _ g.to x.price Quiet x.goes
 
-    pub no_front : get_or l.index (pair_of c g.from place) None ≡ None → Finds m c l g (StepOf v) None
+    pub no_front : get_or l.index (pair_of c g.from place) None ≡ None → Finds m c l g (IsStepOf v) None
     no_front e y k d = none_some _ _ e (step_at (step_front v y k d))
 
-    pub no_arrival : arrival_on m c v place ≡ None → Finds m c l g (StepOf v) None
+    pub no_arrival : arrival_on m c v place ≡ None → Finds m c l g (IsStepOf v) None
     no_arrival e y k d = none_some _ _ e (step_arrives (step_front v y k d))
 
-    pub no_quiet : (h : Arrival) → arrival_on m c v place ≡ Some h → (h.effect ≡ Quiet → ⊥) → Finds m c l g (StepOf v) None
+    pub no_quiet : (h : Arrival) → arrival_on m c v place ≡ Some h → (h.effect ≡ Quiet → ⊥) → Finds m c l g (IsStepOf v) None
     no_quiet h e f y k d = f (ap (λ (a : Arrival). a.effect) (some_eq _ _ _ e (step_arrives (step_front v y k d))))
 
-    pub no_end : (h : Arrival) → arrival_on m c v place ≡ Some h → (h.to ≡ g.to → ⊥) → Finds m c l g (StepOf v) None
+    pub no_end : (h : Arrival) → arrival_on m c v place ≡ Some h → (h.to ≡ g.to → ⊥) → Finds m c l g (IsStepOf v) None
     no_end h e f y k d = f (ap (λ (a : Arrival). a.to) (some_eq _ _ _ e (step_arrives (step_front v y k d))))
 
     module _ (i : ℕ) (h : Arrival) (at : get_or l.index (pair_of c g.from place) None ≡ Some i) (arrives : arrival_on m c v place ≡ Some h) where
-      pub no_cost : (m.join (numbered l i).cost h.cost ≡ g.cost → ⊥) → Finds m c l g (StepOf v) None
+      pub no_cost : (m.join (numbered l i).cost h.cost ≡ g.cost → ⊥) → Finds m c l g (IsStepOf v) None
       no_cost f y k d =
           let x = step_front v y k d in
           let same : h ≡ record { to = g.to; cost = x.price; effect = Quiet } = some_eq _ _ _ arrives (step_arrives x) in
           let here : i ≡ x.front = some_eq _ _ _ at (step_at x) in
           f (ap₂ (λ (n k : ℕ). m.join (numbered l n).cost k) here (ap (λ (a : Arrival). a.cost) same) ∙ x.costs)
 
-      pub step_wins : h.effect ≡ Quiet → h.to ≡ g.to → m.join (numbered l i).cost h.cost ≡ g.cost → Wins m c l g (StepOf v) (Step i v)
+      pub step_wins : h.effect ≡ Quiet → h.to ≡ g.to → m.join (numbered l i).cost h.cost ≡ g.cost → Wins m c l g (IsStepOf v) (Step i v)
       step_wins quiet ends costs =
           let f = from_start place there i at in
           let goes : Transition m c v (numbered l i).to h.to h.cost Quiet = subst₂ (λ (p : Place) (e : Effect). Transition m c v p h.to h.cost e) (sym f.2) quiet (arrival_transition m c v place h arrives) in
@@ -136,23 +136,23 @@ module _ (m : Meaning) (c : Content) (l : Log) (g : Goal) where
 
   -- the rows below n have no step
   abbrev pub NoStepBelow : ℕ → Type 0
-  NoStepBelow n = (i : ℕ) → i < n → Finds m c l g (StepsBy i) None
+  NoStepBelow n = (i : ℕ) → i < n → Finds m c l g (IsStepBy i) None
 
-  pub no_step_more : (n : ℕ) → NoStepBelow n → Finds m c l g (StepsBy n) None → NoStepBelow (n + 1)
-  no_step_more n old new i h = ⊎_elim (λ (e : i ≡ n). subst (λ (j : ℕ). Finds m c l g (StepsBy j) None) (sym e) new) (λ (w : i ≡ n → ⊥). old i (omega arith)) (cases_eq i n)
+  pub no_step_more : (n : ℕ) → NoStepBelow n → Finds m c l g (IsStepBy n) None → NoStepBelow (n + 1)
+  no_step_more n old new i h = ⊎_elim (λ (e : i ≡ n). subst (λ (j : ℕ). Finds m c l g (IsStepBy j) None) (sym e) new) (λ (w : i ≡ n → ⊥). old i (omega arith)) (cases_eq i n)
 
   step_row : (y : Record) → Makes m c l g y → (v : Move) → y.derivation ≡ by_step v → v.row < length c.rows
   step_row y k v d = let x : StepFront m c l g v = step_of v k.candidate k.starts k.ends k.costs d in goes_row x.goes
 
-  pub no_step : (n : ℕ) → length c.rows ≤ n → NoStepBelow n → Finds m c l g Steps None
+  pub no_step : (n : ℕ) → length c.rows ≤ n → NoStepBelow n → Finds m c l g IsStep None
   no_step n h old y k (v, d) = let r = step_row y k v d in old v.row (omega arith) y k (v, refl, d)
 
   -- a step by a later row
-  later_row : (n : ℕ) (s : LogDerivation) → StepsBy n (derivation_of s) → (y : Record) (v : Move) → y.derivation ≡ by_step v → n < v.row → Lex (derivation_key (derivation_of s)) (derivation_key y.derivation)
+  later_row : (n : ℕ) (s : LogDerivation) → IsStepBy n (derivation_of s) → (y : Record) (v : Move) → y.derivation ≡ by_step v → n < v.row → Lex (derivation_key (derivation_of s)) (derivation_key y.derivation)
   later_row n s one y v d h = subst₂ (λ (x z : Derivation). Lex (derivation_key x) (derivation_key z)) (sym one.2) (sym d) (inr (refl, inl (let e = one.1 in omega arith)))
 
-  pub first_row : (n : ℕ) (s : LogDerivation) → NoStepBelow n → Wins m c l g (StepsBy n) s → Wins m c l g Steps s
-  first_row n s old w = wins_more (StepsBy n) Steps s w (w.one.0, w.one.2) (λ y k q. ⊎_elim
+  pub first_row : (n : ℕ) (s : LogDerivation) → NoStepBelow n → Wins m c l g (IsStepBy n) s → Wins m c l g IsStep s
+  first_row n s old w = wins_more (IsStepBy n) IsStep s w (w.one.0, w.one.2) (λ y k q. ⊎_elim
       (λ (h : q.0.row < n). absurd (old q.0.row h y k (q.0, refl, q.1)))
       (λ (h : n ≤ q.0.row). ⊎_elim
       (λ (e : q.0.row ≡ n). inl (q.0, e, q.1))
@@ -162,10 +162,10 @@ module _ (m : Meaning) (c : Content) (l : Log) (g : Goal) where
 
   -- the numbered lines of a list have no step
   abbrev pub NoStepAlong : ℕ → List ℕ → ℕ → Type 0
-  NoStepAlong row lines n = (i : ℕ) → i < n → Finds m c l g (StepOf (record { row = row; line = Some (get_or lines i 0) })) None
+  NoStepAlong row lines n = (i : ℕ) → i < n → Finds m c l g (IsStepOf (record { row = row; line = Some (get_or lines i 0) })) None
 
-  pub no_along_more : (row : ℕ) (lines : List ℕ) (n : ℕ) → NoStepAlong row lines n → Finds m c l g (StepOf (record { row = row; line = Some (get_or lines n 0) })) None → NoStepAlong row lines (n + 1)
-  no_along_more row lines n old new i h = ⊎_elim (λ (e : i ≡ n). subst (λ (j : ℕ). Finds m c l g (StepOf (record { row = row; line = Some (get_or lines j 0) })) None) (sym e) new) (λ (w : i ≡ n → ⊥). old i (omega arith)) (cases_eq i n)
+  pub no_along_more : (row : ℕ) (lines : List ℕ) (n : ℕ) → NoStepAlong row lines n → Finds m c l g (IsStepOf (record { row = row; line = Some (get_or lines n 0) })) None → NoStepAlong row lines (n + 1)
+  no_along_more row lines n old new i h = ⊎_elim (λ (e : i ≡ n). subst (λ (j : ℕ). Finds m c l g (IsStepOf (record { row = row; line = Some (get_or lines j 0) })) None) (sym e) new) (λ (w : i ≡ n → ⊥). old i (omega arith)) (cases_eq i n)
 
 -- a plain row that does what it does
 quiet_plain : (k : RowKind) (n : ℕ) → Quiet ≡ effect_of k n → k ≡ PlainRow
@@ -179,12 +179,12 @@ module _ {m : Meaning} {c : Content} {l : Log} (laws : Lawful m) (ready : Ready 
   row_of : {v : Move} {p q : Place} {k : ℕ} {e : Effect} → v.row ≡ row → (t : Transition m c v p q k e) → t.by ≡ r
   row_of same t = some_eq _ _ _ (ap (slice_get c.rows) (sym same) ∙ t.found) row_is
 
-  pub no_row_to : (r.to ≡ mode g.to → ⊥) → Finds m c l g (StepsBy row) None
+  pub no_row_to : (r.to ≡ mode g.to → ⊥) → Finds m c l g (IsStepBy row) None
   no_row_to far y k (v, same, d) =
       let x = step_front laws ready g on v y k d in
       far (ap (λ (z : Row). z.to) (sym (row_of same x.goes)) ∙ sym x.goes.enters)
 
-  pub no_row_plain : (r.kind ≡ PlainRow → ⊥) → Finds m c l g (StepsBy row) None
+  pub no_row_plain : (r.kind ≡ PlainRow → ⊥) → Finds m c l g (IsStepBy row) None
   no_row_plain other y k (v, same, d) =
       let x = step_front laws ready g on v y k d in
       other (ap (λ (z : Row). z.kind) (sym (row_of same x.goes)) ∙ quiet_plain _ _ x.goes.does)
@@ -197,11 +197,11 @@ module _ {m : Meaning} {c : Content} {l : Log} (laws : Lawful m) (ready : Ready 
     alone_move : {v : Move} {p q : Place} {k : ℕ} → v.row ≡ row → Transition m c v p q k Quiet → v ≡ bare row
     alone_move {v} same t = move_eq v (bare row) same (⊎_elim (λ u. u.alone) (λ u. absurd (u.some_event (ap (λ (z : Row). z.label) (row_of same t) ∙ no_event))) t.time)
 
-    pub alone_none : Finds m c l g (StepOf (bare row)) None → Finds m c l g (StepsBy row) None
+    pub alone_none : Finds m c l g (IsStepOf (bare row)) None → Finds m c l g (IsStepBy row) None
     alone_none f y k (v, same, d) = let x = step_front laws ready g on v y k d in f y k (d ∙ ap by_step (alone_move same x.goes))
 
-    pub alone_wins : (s : LogDerivation) → Wins m c l g (StepOf (bare row)) s → Wins m c l g (StepsBy row) s
-    alone_wins s w = wins_more m c l g (StepOf (bare row)) (StepsBy row) s w (bare row, refl, w.one) (λ y k q. let x = step_front laws ready g on q.0 y k q.2 in inl (q.2 ∙ ap by_step (alone_move q.1 x.goes)))
+    pub alone_wins : (s : LogDerivation) → Wins m c l g (IsStepOf (bare row)) s → Wins m c l g (IsStepBy row) s
+    alone_wins s w = wins_more m c l g (IsStepOf (bare row)) (IsStepBy row) s w (bare row, refl, w.one) (λ y k q. let x = step_front laws ready g on q.0 y k q.2 in inl (q.2 ∙ ap by_step (alone_move q.1 x.goes)))
 
   -- with an event
   module _ (plain : r.kind ≡ PlainRow) (some_event : r.label ≡ 0 → ⊥) (lines : List ℕ) (all : Gathered (LineTo c (moment g.to)) (length c.lines) lines) where
@@ -219,7 +219,7 @@ module _ {m : Meaning} {c : Content} {l : Log} (laws : Lawful m) (ready : Ready 
           (λ u. let n : get_or lines i 0 ≡ u.number = some_eq _ _ _ refl u.along in u.start ∙ ap (λ (z : Line). z.from) (some_eq _ _ _ u.found (ap (slice_get c.lines) (sym n) ∙ line_is)))
           t.time)
 
-      pub no_same_event : (w.event ≡ r.label → ⊥) → Finds m c l g (StepOf (record { row = row; line = Some (get_or lines i 0) })) None
+      pub no_same_event : (w.event ≡ r.label → ⊥) → Finds m c l g (IsStepOf (record { row = row; line = Some (get_or lines i 0) })) None
       no_same_event other y k d =
           let x = step_front laws ready g on (along i) y k d in
           ⊎_elim
@@ -229,7 +229,7 @@ module _ {m : Meaning} {c : Content} {l : Log} (laws : Lawful m) (ready : Ready 
           other (ap (λ (z : Line). z.event) w-is ∙ u.same_event ∙ ap (λ (z : Row). z.label) (row_of refl x.goes)))
           x.goes.time
 
-    pub no_line_read : (i : ℕ) → slice_get c.lines (get_or lines i 0) ≡ None → Finds m c l g (StepOf (record { row = row; line = Some (get_or lines i 0) })) None
+    pub no_line_read : (i : ℕ) → slice_get c.lines (get_or lines i 0) ≡ None → Finds m c l g (IsStepOf (record { row = row; line = Some (get_or lines i 0) })) None
     no_line_read i e y k d =
         let x = step_front laws ready g on (along i) y k d in
         ⊎_elim
@@ -245,15 +245,15 @@ module _ {m : Meaning} {c : Content} {l : Log} (laws : Lawful m) (ready : Ready 
         (f.0, f.1, move_eq v (record { row = row; line = Some (get_or lines f.0 0) }) same (u.along ∙ ap Some (sym f.2))))
         t.time
 
-    pub along_none : (n : ℕ) → length lines ≤ n → NoStepAlong m c l g row lines n → Finds m c l g (StepsBy row) None
+    pub along_none : (n : ℕ) → length lines ≤ n → NoStepAlong m c l g row lines n → Finds m c l g (IsStepBy row) None
     along_none n h old y k (v, same, d) =
         let x = step_front laws ready g on v y k d in
         let f = along_one same x.goes in
         let f1 = f.1 in
         old f.0 (omega arith) y k (d ∙ ap by_step f.2)
 
-    pub along_wins : (n : ℕ) (s : LogDerivation) → n < length lines → NoStepAlong m c l g row lines n → Wins m c l g (StepOf (record { row = row; line = Some (get_or lines n 0) })) s → Wins m c l g (StepsBy row) s
-    along_wins n s hn old w = wins_more m c l g (StepOf (along n)) (StepsBy row) s w (along n, refl, w.one) (λ y k q.
+    pub along_wins : (n : ℕ) (s : LogDerivation) → n < length lines → NoStepAlong m c l g row lines n → Wins m c l g (IsStepOf (record { row = row; line = Some (get_or lines n 0) })) s → Wins m c l g (IsStepBy row) s
+    along_wins n s hn old w = wins_more m c l g (IsStepOf (along n)) (IsStepBy row) s w (along n, refl, w.one) (λ y k q.
         let x = step_front laws ready g on q.0 y k q.2 in
         let f = along_one q.1 x.goes in
         ⊎_elim

@@ -15,10 +15,10 @@ use Rattle.board.specs.Moves.{Place, On, place_number}
 use Rattle.board.specs.Paths.{BalancedPath}
 use Rattle.board.specs.Packing.{packed}
 use Rattle.board.specs.Settling.{Record, SettledLog}
-use Rattle.board.specs.Computing.{record_between, ReadingFound, recorded_reading}
+use Rattle.board.specs.Computing.{record_between, Reading, recorded_reading}
 use Rattle.board.specs.Promises.{RecordsAreLeast, RecordedIsCheapest}
 use Rattle.board.specs.Questions.{recorded_cost, between_answer, cost_told, cost_answer, fits, path_told, path_written, path_answer, path_after}
-use Rattle.board.specs.Meanings.{CostMeans, PathMeans, Pair, BetweenMeans}
+use Rattle.board.specs.Meanings.{CostIsCheapest, PathWritesCheapest, Pair, BetweenIsLeast}
 use Rattle.board.proofs.Basics.Membership.{none_some}
 use Rattle.board.proofs.Questions.Finding.{joins_parts, between_some, between_is, found_recorded, found_none}
 use Rattle.board.proofs.Basics.Numbers.{place_below}
@@ -29,7 +29,7 @@ module _ {m : Meaning} {c : Content} (laws : Lawful m) (sound : Sound m c) {log 
   promised = (settling_promises m c laws sound).1 log d
 
   -- cost
-  cost_by : (o : Option ReadingFound) → recorded_reading m c log ≡ o → CostMeans m c log (cost_told o)
+  cost_by : (o : Option Reading) → recorded_reading m c log ≡ o → CostIsCheapest m c log (cost_told o)
   cost_by None e = (refl, promised.1.none.0 (found_none laws sound d.reached e))
   cost_by (Some f) e =
       let r = found_recorded laws sound d.reached f e in
@@ -42,14 +42,14 @@ module _ {m : Meaning} {c : Content} (laws : Lawful m) (sound : Sound m c) {log 
         cheapest = λ other x h. promised.1.cheapest _ x _ other r h;
       }
 
-  cost_means : CostMeans m c log (cost_answer m c log)
+  cost_means : CostIsCheapest m c log (cost_answer m c log)
   cost_means = cost_by _ refl
 
   -- path
-  longer : (f : ReadingFound) (buffer : List ℕ) → fits f buffer ≡ false → (length buffer < length f.moves) ⊎ (65535 < length f.moves)
+  longer : (f : Reading) (buffer : List ℕ) → fits f buffer ≡ false → (length buffer < length f.moves) ⊎ (65535 < length f.moves)
   longer f buffer e = ⊎_elim (λ h. inl (leb-false _ _ h)) (λ h. inr (leb-false _ _ h)) (and_cases _ _ e)
 
-  path_fits : (f : ReadingFound) (buffer : List ℕ) → recorded_reading m c log ≡ Some f → (t : Bool) → fits f buffer ≡ t → PathMeans m c log buffer (cond t (Ok (length f.moves)) (Err TooLong)) (cond t (map packed f.moves ++ drop (length f.moves) buffer) buffer)
+  path_fits : (f : Reading) (buffer : List ℕ) → recorded_reading m c log ≡ Some f → (t : Bool) → fits f buffer ≡ t → PathWritesCheapest m c log buffer (cond t (Ok (length f.moves)) (Err TooLong)) (cond t (map packed f.moves ++ drop (length f.moves) buffer) buffer)
   path_fits f buffer e true h =
       let r = found_recorded laws sound d.reached f e in
       let z = and_parts _ _ h in
@@ -67,15 +67,15 @@ module _ {m : Meaning} {c : Content} (laws : Lawful m) (sound : Sound m c) {log 
       }
   path_fits f buffer e false h = (inr (refl, record { cost = f.cost; reading = f.moves; recorded = found_recorded laws sound d.reached f e; longer = longer f buffer h }), refl)
 
-  path_by : (o : Option ReadingFound) (buffer : List ℕ) → recorded_reading m c log ≡ o → PathMeans m c log buffer (path_told o buffer) (path_written o buffer)
+  path_by : (o : Option Reading) (buffer : List ℕ) → recorded_reading m c log ≡ o → PathWritesCheapest m c log buffer (path_told o buffer) (path_written o buffer)
   path_by None buffer e = (inl (refl, promised.1.none.0 (found_none laws sound d.reached e)), refl)
   path_by (Some f) buffer e = path_fits f buffer e (fits f buffer) refl
 
-  path_means : (buffer : List ℕ) → PathMeans m c log buffer (path_answer m c log buffer) (path_after m c log buffer)
+  path_means : (buffer : List ℕ) → PathWritesCheapest m c log buffer (path_answer m c log buffer) (path_after m c log buffer)
   path_means buffer = path_by _ buffer refl
 
   -- between
-  some_between : (s q : ℕ) (a : Record) → record_between c log s q ≡ Some a → BetweenMeans m c s q (Ok a.cost)
+  some_between : (s q : ℕ) (a : Record) → record_between c log s q ≡ Some a → BetweenIsLeast m c s q (Ok a.cost)
   some_between s q a e =
       let h = between_some c log s q a e in
       let n = joins_parts c a s q h.1 in
@@ -113,24 +113,24 @@ module _ {m : Meaning} {c : Content} (laws : Lawful m) (sound : Sound m c) {log 
       let b = place_of q (leb-false _ _ z.1) in
       record { first = a.0; second = b.0; first_on = a.1; second_on = b.1; first_number = a.2; second_number = b.2 }
 
-  record_by : (s q : ℕ) (o : Option Record) → Pair c s q → record_between c log s q ≡ o → BetweenMeans m c s q (recorded_cost o)
+  record_by : (s q : ℕ) (o : Option Record) → Pair c s q → record_between c log s q ≡ o → BetweenIsLeast m c s q (recorded_cost o)
   record_by s q None p e = inr (refl, record { pair = p; none = none_joins s q e p })
   record_by s q (Some a) p e = some_between s q a e
 
-  between_by : (s q : ℕ) (t : Bool) → (leb (c.modes * c.moments) s || leb (c.modes * c.moments) q) ≡ t → BetweenMeans m c s q (cond t (Err PlaceOut) (recorded_cost (record_between c log s q)))
+  between_by : (s q : ℕ) (t : Bool) → (leb (c.modes * c.moments) s || leb (c.modes * c.moments) q) ≡ t → BetweenIsLeast m c s q (cond t (Err PlaceOut) (recorded_cost (record_between c log s q)))
   between_by s q true e = inl (refl, no_pair s q e)
   between_by s q false e = record_by s q _ (the_pair s q e) refl
 
-  between_means : (s q : ℕ) → BetweenMeans m c s q (between_answer c log s q)
+  between_means : (s q : ℕ) → BetweenIsLeast m c s q (between_answer c log s q)
   between_means s q = between_by s q _ refl
 
 -- what a settled board answers, and its meaning
 module _ {K : Type 0} {k : Ghosts K} (laws : Lawful k.meaning) (s : SettledBoard K k) where
-  pub cost_tells : (r : Result (ℕ × ℕ) Refusal) → r ≡ cost_answer k.meaning (settled_content s) (settled_records s) → CostMeans k.meaning (settled_content s) (settled_records s) r
-  cost_tells r e = subst (CostMeans k.meaning (settled_content s) (settled_records s)) (sym e) (cost_means laws s.tables.sound (settled_of laws s))
+  pub cost_tells : (r : Result (ℕ × ℕ) Refusal) → r ≡ cost_answer k.meaning (settled_content s) (settled_records s) → CostIsCheapest k.meaning (settled_content s) (settled_records s) r
+  cost_tells r e = subst (CostIsCheapest k.meaning (settled_content s) (settled_records s)) (sym e) (cost_means laws s.tables.sound (settled_of laws s))
 
-  pub path_tells : (b b' : List ℕ) (r : Result ℕ Refusal) → r ≡ path_answer k.meaning (settled_content s) (settled_records s) b → b' ≡ path_after k.meaning (settled_content s) (settled_records s) b → PathMeans k.meaning (settled_content s) (settled_records s) b r b'
-  path_tells b b' r e f = subst₂ (PathMeans k.meaning (settled_content s) (settled_records s) b) (sym e) (sym f) (path_means laws s.tables.sound (settled_of laws s) b)
+  pub path_tells : (b b' : List ℕ) (r : Result ℕ Refusal) → r ≡ path_answer k.meaning (settled_content s) (settled_records s) b → b' ≡ path_after k.meaning (settled_content s) (settled_records s) b → PathWritesCheapest k.meaning (settled_content s) (settled_records s) b r b'
+  path_tells b b' r e f = subst₂ (PathWritesCheapest k.meaning (settled_content s) (settled_records s) b) (sym e) (sym f) (path_means laws s.tables.sound (settled_of laws s) b)
 
-  pub between_tells : (from to : ℕ) (r : Result ℕ Refusal) → r ≡ between_answer (settled_content s) (settled_records s) from to → BetweenMeans k.meaning (settled_content s) from to r
-  between_tells from to r e = subst (BetweenMeans k.meaning (settled_content s) from to) (sym e) (between_means laws s.tables.sound (settled_of laws s) from to)
+  pub between_tells : (from to : ℕ) (r : Result ℕ Refusal) → r ≡ between_answer (settled_content s) (settled_records s) from to → BetweenIsLeast k.meaning (settled_content s) from to r
+  between_tells from to r e = subst (BetweenIsLeast k.meaning (settled_content s) from to) (sym e) (between_means laws s.tables.sound (settled_of laws s) from to)

@@ -12,7 +12,7 @@ use Rattle.board.specs.Content.{Content, Sound}
 use Rattle.board.specs.Moves.{Place, mode, moment, origin, place_number, On, Transition, is_end}
 use Rattle.board.specs.Settling.{Cheaper, In, bare, Record, Rounds, SettledLog, ReadingBy, RecordedReading, HasNoReading, AnswersCost}
 use Rattle.board.specs.Arrivals.{arrival_on}
-use Rattle.board.specs.Computing.{joins?, record_between, ReadingFound, ending, reading_at, better, best_moments, mode_left, best_rows, recorded_reading}
+use Rattle.board.specs.Computing.{joins?, record_between, Reading, ending, reading_at, better, best_moments, mode_left, best_rows, recorded_reading}
 use Rattle.board.specs.Promises.{Computed}
 use Rattle.board.proofs.Basics.Laws.{cheaper_no_dearer, no_dearer_eq, cheaper_up, cheaper_or}
 use Rattle.board.proofs.Basics.Membership.{none_some}
@@ -49,7 +49,7 @@ between_none c (b ∷ log) s q e a i j = by (λ g k. between_none c log s q g a 
     by rest false f g (inl k) = both_ways _ f (ap (λ (x : Record). joins? c x s q) (sym k) ∙ j)
     by rest false f g (inr k) = rest g k
 
-abbrev the_found : ℕ → ℕ → List Move → ReadingFound
+abbrev the_found : ℕ → ℕ → List Move → Reading
 the_found i k vs = record { row = i; cost = k; moves = vs }
 
 module _ {m : Meaning} {c : Content} (laws : Lawful m) (sound : Sound m c) {rounds : ℕ} {log : List Record} (reached : Rounds m c rounds log) where
@@ -83,10 +83,10 @@ module _ {m : Meaning} {c : Content} (laws : Lawful m) (sound : Sound m c) {roun
   origin_zero = omega arith
 
   -- what is read at a place is a reading by that row
-  abbrev Reads : ReadingFound → Type 0
+  abbrev Reads : Reading → Type 0
   Reads x = ReadingBy m c log x.row x.cost x.moves
 
-  ending_reads : (i : ℕ) (p : Place) (x : ReadingFound) (o : Option Arrival) (b : Option Record) → On c p → arrival_on m c (bare i) p ≡ o → record_between c log 0 (place_number c p) ≡ b → ending m i o b ≡ Some x → Reads x × (x.row ≡ i)
+  ending_reads : (i : ℕ) (p : Place) (x : Reading) (o : Option Arrival) (b : Option Record) → On c p → arrival_on m c (bare i) p ≡ o → record_between c log 0 (place_number c p) ≡ b → ending m i o b ≡ Some x → Reads x × (x.row ≡ i)
   ending_reads i p x None b on e f g = absurd (none-some x g)
   ending_reads i p x (Some h) None on e f g = absurd (none-some x g)
   ending_reads i p x (Some h) (Some a) on e f g = by (is_end h.effect) refl g
@@ -99,9 +99,9 @@ module _ {m : Meaning} {c : Content} (laws : Lawful m) (sound : Sound m c) {roun
           let stays : Transition m c (bare i) p p h.cost Ends = subst (λ q. Transition m c (bare i) p q h.cost Ends) (sym (end_alone laws sound go).1) go in
           let over : Transition m c (bare i) a.to a.to h.cost Ends = subst (λ q. Transition m c (bare i) q q h.cost Ends) (sym w.2) stays in
           let is : the_found i (m.join a.cost h.cost) (a.moves ++ (bare i ∷ [])) ≡ x = cc in
-          subst (λ (y : ReadingFound). Reads y × (y.row ≡ i)) is (record { held = a; logged = w.0; starts_0 = w.1; price = h.cost; over = over; cost_is = refl; moves_are = refl }, refl)
+          subst (λ (y : Reading). Reads y × (y.row ≡ i)) is (record { held = a; logged = w.0; starts_0 = w.1; price = h.cost; over = over; cost_is = refl; moves_are = refl }, refl)
 
-  read_some : (i : ℕ) (p : Place) (x : ReadingFound) → On c p → reading_at m c log i p ≡ Some x → Reads x × (x.row ≡ i)
+  read_some : (i : ℕ) (p : Place) (x : Reading) → On c p → reading_at m c log i p ≡ Some x → Reads x × (x.row ≡ i)
   read_some i p x on e = ending_reads i p x _ _ on refl refl e
 
   -- every reading by a row is read at its place
@@ -119,18 +119,18 @@ module _ {m : Meaning} {c : Content} (laws : Lawful m) (sound : Sound m c) {roun
   Looked = ℕ → Place → Type 0
 
   -- nothing below the worst, or the best of those looked at
-  record Best (C : Looked) (f : ReadingFound) (n : ℕ) : Type 0 where
+  record Best (C : Looked) (f : Reading) (n : ℕ) : Type 0 where
     reads : Reads f
     below : Cheaper m f.cost m.worst
     last_in : f.row ≤ n
     least : (i k : ℕ) (vs : List Move) (r : ReadingBy m c log i k vs) → C i r.held.to → Cheaper m f.cost k ⊎ ((f.cost ≡ k) × (f.row ≤ i))
 
-  abbrev Scanned : Looked → ℕ → Option ReadingFound → Type 0
+  abbrev Scanned : Looked → ℕ → Option Reading → Type 0
   Scanned C n None = (i k : ℕ) (vs : List Move) (r : ReadingBy m c log i k vs) → C i r.held.to → NoDearer m m.worst k
   Scanned C n (Some f) = Best C f n
 
   -- those looked at may be told otherwise, and the row may rise
-  scanned_for : (C D : Looked) (n n' : ℕ) (b : Option ReadingFound) → n ≤ n' → ((i k : ℕ) (vs : List Move) (r : ReadingBy m c log i k vs) → D i r.held.to → C i r.held.to) → Scanned C n b → Scanned D n' b
+  scanned_for : (C D : Looked) (n n' : ℕ) (b : Option Reading) → n ≤ n' → ((i k : ℕ) (vs : List Move) (r : ReadingBy m c log i k vs) → D i r.held.to → C i r.held.to) → Scanned C n b → Scanned D n' b
   scanned_for C D n n' None h g s = λ i k vs r d. s i k vs r (g i k vs r d)
   scanned_for C D n n' (Some f) h g s = record { reads = s.reads; below = s.below; last_in = let l = s.last_in in omega arith; least = λ i k vs r d. s.least i k vs r (g i k vs r d) }
 
@@ -143,14 +143,14 @@ module _ {m : Meaning} {c : Content} (laws : Lawful m) (sound : Sound m c) {roun
     More i q = C i q ⊎ ((i ≡ n) × (q ≡ p))
 
     -- what is read there is what any reading there is
-    same_there : (o : Option ReadingFound) → reading_at m c log n p ≡ o → (i k : ℕ) (vs : List Move) (r : ReadingBy m c log i k vs) → i ≡ n → r.held.to ≡ p → o ≡ Some (the_found i k vs)
+    same_there : (o : Option Reading) → reading_at m c log n p ≡ o → (i k : ℕ) (vs : List Move) (r : ReadingBy m c log i k vs) → i ≡ n → r.held.to ≡ p → o ≡ Some (the_found i k vs)
     same_there o e i k vs r ei ep =
         sym e ∙ ap (λ z. reading_at m c log z p) (sym ei) ∙ ap (reading_at m c log i) (sym ep) ∙ read_all i k vs r
 
-    cost_there : (x : ReadingFound) → reading_at m c log n p ≡ Some x → (i k : ℕ) (vs : List Move) (r : ReadingBy m c log i k vs) → i ≡ n → r.held.to ≡ p → x.cost ≡ k
-    cost_there x e i k vs r ei ep = let is = same_there (Some x) e i k vs r ei ep in let z : x ≡ the_found i k vs = cc in ap (λ (y : ReadingFound). y.cost) z
+    cost_there : (x : Reading) → reading_at m c log n p ≡ Some x → (i k : ℕ) (vs : List Move) (r : ReadingBy m c log i k vs) → i ≡ n → r.held.to ≡ p → x.cost ≡ k
+    cost_there x e i k vs r ei ep = let is = same_there (Some x) e i k vs r ei ep in let z : x ≡ the_found i k vs = cc in ap (λ (y : Reading). y.cost) z
 
-    scan_more : (b o : Option ReadingFound) → reading_at m c log n p ≡ o → Scanned C n b → Scanned More n (better m b o)
+    scan_more : (b o : Option Reading) → reading_at m c log n p ≡ o → Scanned C n b → Scanned More n (better m b o)
     scan_more None None e s = λ i k vs r. ⊎_elim (s i k vs r) (λ d. absurd (none_some _ _ refl (same_there None e i k vs r d.0 d.1)))
     scan_more (Some f) None e s = record { reads = s.reads; below = s.below; last_in = s.last_in; least = λ i k vs r. ⊎_elim (s.least i k vs r) (λ d. absurd (none_some _ _ refl (same_there None e i k vs r d.0 d.1))) }
     scan_more None (Some x) e s = by (m.no_dearer m.worst x.cost) refl
@@ -190,7 +190,7 @@ module _ {m : Meaning} {c : Content} (laws : Lawful m) (sound : Sound m c) {roun
             }
 
   -- the moments below t of one row
-  moments_scanned : (C : Looked) (n u t : ℕ) (b : Option ReadingFound) → u < c.modes → t ≤ c.moments → Scanned C n b → Scanned (λ i q. C i q ⊎ ((i ≡ n) × (mode q ≡ u) × (moment q < t))) n (best_moments m c log n u t b)
+  moments_scanned : (C : Looked) (n u t : ℕ) (b : Option Reading) → u < c.modes → t ≤ c.moments → Scanned C n b → Scanned (λ i q. C i q ⊎ ((i ≡ n) × (mode q ≡ u) × (moment q < t))) n (best_moments m c log n u t b)
   unfolding best_moments
   moments_scanned C n u zero b hu ht s = scanned_for C _ n n b (omega arith) (λ i k vs r. ⊎_elim (λ d. d) (λ d. absurd (let z = d.2 in omega arith))) s
   moments_scanned C n u (suc t) b hu ht s =
@@ -220,17 +220,17 @@ module _ {m : Meaning} {c : Content} (laws : Lawful m) (sound : Sound m c) {roun
   all_scanned : (i k : ℕ) (vs : List Move) (r : ReadingBy m c log i k vs) → i < length c.rows
   all_scanned i k vs r = (reading_place i k vs r).2
 
-  from_scan : (b : Option ReadingFound) → Scanned (λ i q. i < length c.rows) (length c.rows) b → (x : ReadingFound) → b ≡ Some x → RecordedReading m c log x.cost x.moves
+  from_scan : (b : Option Reading) → Scanned (λ i q. i < length c.rows) (length c.rows) b → (x : Reading) → b ≡ Some x → RecordedReading m c log x.cost x.moves
   from_scan None s x e = absurd (none-some x e)
   from_scan (Some f) s x e =
       let is : f ≡ x = cc in
-      subst (λ (y : ReadingFound). RecordedReading m c log y.cost y.moves) is (record { last = f.row; reads = s.reads; below = s.below; least = λ i n ws r. s.least i n ws r (all_scanned i n ws r) })
+      subst (λ (y : Reading). RecordedReading m c log y.cost y.moves) is (record { last = f.row; reads = s.reads; below = s.below; least = λ i n ws r. s.least i n ws r (all_scanned i n ws r) })
 
-  none_scan : (b : Option ReadingFound) → Scanned (λ i q. i < length c.rows) (length c.rows) b → b ≡ None → HasNoReading m c log
+  none_scan : (b : Option Reading) → Scanned (λ i q. i < length c.rows) (length c.rows) b → b ≡ None → HasNoReading m c log
   none_scan None s e = λ i n ws r. s i n ws r (all_scanned i n ws r)
   none_scan (Some f) s e = absurd (none_some _ f e refl)
 
-  pub found_recorded : (x : ReadingFound) → recorded_reading m c log ≡ Some x → RecordedReading m c log x.cost x.moves
+  pub found_recorded : (x : Reading) → recorded_reading m c log ≡ Some x → RecordedReading m c log x.cost x.moves
   unfolding recorded_reading
   found_recorded x e = from_scan _ (rows_scanned (length c.rows)) x e
 
@@ -242,7 +242,7 @@ module _ {m : Meaning} {c : Content} (laws : Lawful m) (sound : Sound m c) {roun
   pub answered : (k : ℕ) × AnswersCost m c log k
   answered = either (recorded_reading m c log) refl
     where
-      either : (o : Option ReadingFound) → recorded_reading m c log ≡ o → (k : ℕ) × AnswersCost m c log k
+      either : (o : Option Reading) → recorded_reading m c log ≡ o → (k : ℕ) × AnswersCost m c log k
       either None e = (m.worst, inr (found_none e, refl))
       either (Some x) e = (x.cost, inl (x.moves, found_recorded x e))
 
@@ -254,7 +254,7 @@ module _ {m : Meaning} {c : Content} (laws : Lawful m) (sound : Sound m c) where
   recorded_found : {log : List Record} {k : ℕ} {vs : List Move} → SettledLog m c log → RecordedReading m c log k vs → (i : ℕ) × (recorded_reading m c log ≡ Some (record { row = i; cost = k; moves = vs }))
   recorded_found {log} {k} {vs} d r = either (recorded_reading m c log) refl
     where
-      either : (o : Option ReadingFound) → recorded_reading m c log ≡ o → (i : ℕ) × (recorded_reading m c log ≡ Some (record { row = i; cost = k; moves = vs }))
+      either : (o : Option Reading) → recorded_reading m c log ≡ o → (i : ℕ) × (recorded_reading m c log ≡ Some (record { row = i; cost = k; moves = vs }))
       either None e = absurd (not_both r (found_none laws sound d.reached e))
       either (Some x) e =
           let same = one_reading laws sound d (found_recorded laws sound d.reached x e) r in
@@ -264,7 +264,7 @@ module _ {m : Meaning} {c : Content} (laws : Lawful m) (sound : Sound m c) where
   none_found : {log : List Record} → SettledLog m c log → HasNoReading m c log → recorded_reading m c log ≡ None
   none_found {log} d none = either (recorded_reading m c log) refl
     where
-      either : (o : Option ReadingFound) → recorded_reading m c log ≡ o → recorded_reading m c log ≡ None
+      either : (o : Option Reading) → recorded_reading m c log ≡ o → recorded_reading m c log ≡ None
       either None e = e
       either (Some x) e = absurd (not_both (found_recorded laws sound d.reached x e) none)
 

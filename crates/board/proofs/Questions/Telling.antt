@@ -10,17 +10,17 @@ use Rattle.board.specs.Spelled.{moves_at, move_of}
 use Rattle.board.proofs.Questions.Holding.{settled_of}
 use Rattle.board.proofs.Questions.Packs.{settled_small}
 use Rattle.board.specs.declared.log.Log.{Log}
-use Rattle.board.specs.declared.reading.Reading.{Reading}
+use Rattle.board.specs.declared.reading.Reading.{Reading as LogReading}
 use Rattle.board.specs.Packing.{packed, Small}
 use Rattle.board.specs.Settling.{bare}
 use Rattle.board.specs.Logs.{nth_record}
-use Rattle.board.specs.Computing.{ReadingFound, recorded_reading}
+use Rattle.board.specs.Computing.{Reading, recorded_reading}
 use Rattle.board.specs.Boards.{settled_content, settled_records}
 use Rattle.board.specs.Questions.{fits, path_told, path_written, path_answer, path_after}
 
 -- what is told of a reading in a log
-module _ (l : Log) (r : Reading) (o : Option ReadingFound) (is : reading_of l (Some r) ≡ o) (k : ℕ) (measured : k ≡ min (length (nth_record l r.before).moves) 65536) where
-  the_found : ReadingFound
+module _ (l : Log) (r : LogReading) (o : Option Reading) (is : reading_of l (Some r) ≡ o) (k : ℕ) (measured : k ≡ min (length (nth_record l r.before).moves) 65536) where
+  the_found : Reading
   the_found = record { row = r.row; cost = r.cost; moves = (nth_record l r.before).moves ++ (bare r.row ∷ []) }
 
   one_more : length ((nth_record l r.before).moves ++ (bare r.row ∷ [])) ≡ length (nth_record l r.before).moves + 1
@@ -56,7 +56,7 @@ module _ (l : Log) (r : Reading) (o : Option ReadingFound) (is : reading_of l (S
       )
 
 -- what a settled board tells of the reading that it recorded
-module _ {K : Type 0} {k : Ghosts K} (laws : Lawful k.meaning) (s : Settled K k) {w : Option Reading} (r : Reading) (w-is : w ≡ Some r) (within : ReadingIn s.log.count (length s.tables.rows.items) w) where
+module _ {K : Type 0} {k : Ghosts K} (laws : Lawful k.meaning) (s : Settled K k) {w : Option LogReading} (r : LogReading) (w-is : w ≡ Some r) (within : ReadingIn s.log.count (length s.tables.rows.items) w) where
   in_log : r.before < s.log.count
   in_log = (subst (ReadingIn s.log.count (length s.tables.rows.items)) w-is within).0
 

@@ -12,7 +12,7 @@ use Rattle.board.specs.Logs.{Spells}
 use Rattle.board.specs.Spelled.{moves_at}
 use Rattle.std.specs.List.{flat_map}
 use Rattle.std.proofs.lemmas.Grind.{flat_map-append}
-use Rattle.board.specs.Cursors.{opened}
+use Rattle.board.specs.Cursors.{pending_moves}
 use Rattle.board.proofs.Rounds.Logging.{settled_is}
 
 -- a record's length is kept, its front and inside are earlier, and its moves are theirs with its own
@@ -34,16 +34,16 @@ module _ {l : Log} (s : Spells l) (i : ℕ) (within : i < l.count) where
       let h = call_in b j o w t e in
       ap (spelled (logged l.records i)) e ∙ ap₂ (λ (x y : Record). x.moves ++ (bare o ∷ (y.moves ++ (bare w ∷ [])))) (settled_is l.records i b h.0) (settled_is l.records i j h.1)
 
-opened_push : (l : Log) (ps : List Pending) (p : Pending) → flat_map (opened l) (ps ++ (p ∷ [])) ≡ flat_map (opened l) ps ++ opened l p
-opened_push l ps p = flat_map-append (opened l) ps (p ∷ []) ∙ ap (λ (xs : List Move). flat_map (opened l) ps ++ xs) (append-nil (opened l p))
+pending_moves_push : (l : Log) (ps : List Pending) (p : Pending) → flat_map (pending_moves l) (ps ++ (p ∷ [])) ≡ flat_map (pending_moves l) ps ++ pending_moves l p
+pending_moves_push l ps p = flat_map-append (pending_moves l) ps (p ∷ []) ∙ ap (λ (xs : List Move). flat_map (pending_moves l) ps ++ xs) (append-nil (pending_moves l p))
 
 module _ {l : Log} (s : Spells l) (i : ℕ) (within : i < l.count) where
   module _ (ps : List Pending) where
-    pub step_last : (b : ℕ) (v : Move) → (numbered l i).derivation ≡ Step b v → flat_map (opened l) ps ++ moves_at l i ≡ (flat_map (opened l) ps ++ moves_at l b) ++ (v ∷ [])
-    step_last b v e = ap (λ (ys : List Move). flat_map (opened l) ps ++ ys) (moves_step s i within b v e) ∙ sym (append_assoc (flat_map (opened l) ps) (moves_at l b) (v ∷ []))
+    pub step_last : (b : ℕ) (v : Move) → (numbered l i).derivation ≡ Step b v → flat_map (pending_moves l) ps ++ moves_at l i ≡ (flat_map (pending_moves l) ps ++ moves_at l b) ++ (v ∷ [])
+    step_last b v e = ap (λ (ys : List Move). flat_map (pending_moves l) ps ++ ys) (moves_step s i within b v e) ∙ sym (append_assoc (flat_map (pending_moves l) ps) (moves_at l b) (v ∷ []))
 
-    pub call_last : (qs : List Pending) (b j o w t : ℕ) → (numbered l i).derivation ≡ Call b j o w t → qs ≡ ps ++ (record { front = b; row = o } ∷ []) → flat_map (opened l) ps ++ moves_at l i ≡ (flat_map (opened l) qs ++ moves_at l j) ++ (bare w ∷ [])
-    call_last qs b j o w t e h = rw (moves_call s i within b j o w t e, h, opened_push l ps (record { front = b; row = o })) (simp append_assoc)
+    pub call_last : (qs : List Pending) (b j o w t : ℕ) → (numbered l i).derivation ≡ Call b j o w t → qs ≡ ps ++ (record { front = b; row = o } ∷ []) → flat_map (pending_moves l) ps ++ moves_at l i ≡ (flat_map (pending_moves l) qs ++ moves_at l j) ++ (bare w ∷ [])
+    call_last qs b j o w t e h = rw (moves_call s i within b j o w t e, h, pending_moves_push l ps (record { front = b; row = o })) (simp append_assoc)
 
 -- the last of the first k moves, and those before it
 pub last_of : (ms before : List Move) (k : ℕ) (v : Move) → 0 < k → k ≤ length ms → take k ms ≡ before ++ (v ∷ []) → (before ≡ take (k - 1) ms) × (v ≡ get_or ms (k - 1) (bare 0))

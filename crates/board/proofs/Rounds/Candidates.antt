@@ -12,7 +12,7 @@ use Rattle.board.specs.Content.{Content}
 use Rattle.board.specs.Moves.{Place, mode, moment, Transition}
 use Rattle.board.specs.Settling.{In, Record, step_record, call_record, Candidate, step, call}
 use Rattle.board.specs.Arrivals.{arrival_on}
-use Rattle.board.specs.Computing.{below, moves_of, all_moves, same_place, step_effect, close_effect, close_by, inside_if, inside_by, open_effect, from_arrival, from_record, candidates}
+use Rattle.board.specs.Computing.{below, moves_by_row, all_moves, same_place, step_effect, close_effect, close_by, inside_if, inside_by, open_effect, from_arrival, from_record, candidates}
 use Rattle.board.proofs.Basics.Membership.{in_split, in_map, in_each, each_in, in_below}
 use Rattle.board.proofs.Rounds.Diagonal.{place_eq}
 use Rattle.board.proofs.Paths.Transitions.{arrival_transition, transition_arrival}
@@ -31,8 +31,8 @@ module _ (m : Meaning) (c : Content) where
   transition_listed v p q k e g =
       let ls = below (length c.lines) in
       let row_in = in_below _ _ (slice_get_within c.rows v.row g.by g.found) in
-      let here : In v (moves_of ls v.row) = ⊎_elim (λ s. inl (move_eq v _ refl s.alone)) (λ s. inr (subst (λ w. In w (map (λ j. record { row = v.row; line = Some j }) ls)) (sym (move_eq v _ refl s.along)) (in_map (λ j. record { row = v.row; line = Some j }) s.number ls (in_below _ _ (slice_get_within c.lines s.number s.taken s.found))))) g.time in
-      in_each (moves_of ls) _ v.row v row_in here
+      let here : In v (moves_by_row ls v.row) = ⊎_elim (λ s. inl (move_eq v _ refl s.alone)) (λ s. inr (subst (λ w. In w (map (λ j. record { row = v.row; line = Some j }) ls)) (sym (move_eq v _ refl s.along)) (in_map (λ j. record { row = v.row; line = Some j }) s.number ls (in_below _ _ (slice_get_within c.lines s.number s.taken s.found))))) g.time in
+      in_each (moves_by_row ls) _ v.row v row_in here
 
   -- each candidate is listed
   pub listed : (log : List Record) (x : Record) → Candidate m c log x → In x (candidates m c log)

@@ -6,7 +6,7 @@ use Rattle.costs.specs.Meaning.{Meaning, Lawful}
 use Rattle.board.specs.Content.{Content, Sound}
 use Rattle.board.specs.Moves.{Place}
 use Rattle.board.specs.Settling.{In, Record, start, diagonal, moments_of, places, Round, Rounds, begin, round, SettledLog}
-use Rattle.board.specs.Computing.{same_place, unsettled?, next, run_on, run, pair_count, settled_log}
+use Rattle.board.specs.Computing.{same_place, unrecorded?, next, run_on, run, pair_count, settled_log}
 use Rattle.board.proofs.Basics.Membership.{in_each}
 use Rattle.board.proofs.Rounds.Diagonal.{in_places}
 use Rattle.board.proofs.Rounds.Candidates.{same_place_refl}
@@ -54,11 +54,11 @@ length_board_pairs c = length_pairs (places c.modes c.moments) ∙ ap (λ k. k *
 -- how many of the pairs are unsettled
 abbrev pub open_in : List Record → List Record → ℕ
 open_in log [] = 0
-open_in log (p ∷ ps) = cond (unsettled? log p) (suc (open_in log ps)) (open_in log ps)
+open_in log (p ∷ ps) = cond (unrecorded? log p) (suc (open_in log ps)) (open_in log ps)
 
 pub open_length : (log ps : List Record) → open_in log ps ≤ length ps
 open_length log [] = omega arith
-open_length log (p ∷ ps) = bound (unsettled? log p) (open_length log ps)
+open_length log (p ∷ ps) = bound (unrecorded? log p) (open_length log ps)
   where
     bound : (t : Bool) → open_in log ps ≤ length ps → cond t (suc (open_in log ps)) (open_in log ps) ≤ suc (length ps)
     bound true h = omega arith
@@ -68,7 +68,7 @@ module _ (log : List Record) (x : Record) where
   -- settling x makes no pair unsettled
   open_less : (ps : List Record) → open_in (x ∷ log) ps ≤ open_in log ps
   open_less [] = omega arith
-  open_less (p ∷ ps) = bound (not (same_place x.from p.from && same_place x.to p.to)) (unsettled? log p) (open_less ps)
+  open_less (p ∷ ps) = bound (not (same_place x.from p.from && same_place x.to p.to)) (unrecorded? log p) (open_less ps)
     where
       bound : (s t : Bool) → open_in (x ∷ log) ps ≤ open_in log ps → cond (s && t) (suc (open_in (x ∷ log) ps)) (open_in (x ∷ log) ps) ≤ cond t (suc (open_in log ps)) (open_in log ps)
       bound true true h = omega arith
@@ -77,18 +77,18 @@ module _ (log : List Record) (x : Record) where
       bound false false h = omega arith
 
   -- and settles its own
-  open_fewer : (p : Record) (ps : List Record) → In p ps → unsettled? log p ≡ true → unsettled? (x ∷ log) p ≡ false → open_in (x ∷ log) ps < open_in log ps
+  open_fewer : (p : Record) (ps : List Record) → In p ps → unrecorded? log p ≡ true → unrecorded? (x ∷ log) p ≡ false → open_in (x ∷ log) ps < open_in log ps
   open_fewer p [] i e f = absurd i
   open_fewer p (q ∷ ps) (inl i) e f =
-      let e' : unsettled? log q ≡ true = ap (unsettled? log) (sym i) ∙ e in
-      let f' : unsettled? (x ∷ log) q ≡ false = ap (unsettled? (x ∷ log)) (sym i) ∙ f in
-      bound (unsettled? (x ∷ log) q) (unsettled? log q) f' e' (open_less ps)
+      let e' : unrecorded? log q ≡ true = ap (unrecorded? log) (sym i) ∙ e in
+      let f' : unrecorded? (x ∷ log) q ≡ false = ap (unrecorded? (x ∷ log)) (sym i) ∙ f in
+      bound (unrecorded? (x ∷ log) q) (unrecorded? log q) f' e' (open_less ps)
     where
       bound : (s t : Bool) → s ≡ false → t ≡ true → open_in (x ∷ log) ps ≤ open_in log ps → cond s (suc (open_in (x ∷ log) ps)) (open_in (x ∷ log) ps) < cond t (suc (open_in log ps)) (open_in log ps)
       bound true t g h k = absurd cc
       bound false true g h k = omega arith
       bound false false g h k = absurd cc
-  open_fewer p (q ∷ ps) (inr i) e f = bound (not (same_place x.from q.from && same_place x.to q.to)) (unsettled? log q) (open_fewer p ps i e f)
+  open_fewer p (q ∷ ps) (inr i) e f = bound (not (same_place x.from q.from && same_place x.to q.to)) (unrecorded? log q) (open_fewer p ps i e f)
     where
       bound : (s t : Bool) → open_in (x ∷ log) ps < open_in log ps → cond (s && t) (suc (open_in (x ∷ log) ps)) (open_in (x ∷ log) ps) < cond t (suc (open_in log ps)) (open_in log ps)
       bound true true h = omega arith
@@ -101,7 +101,7 @@ module _ {m : Meaning} {c : Content} (laws : Lawful m) (sound : Sound m c) where
   round_fewer {log = log} {x = x} s r =
       let p = pair_of x.from x.to in
       let on = candidate_on laws sound s r.candidate in
-      open_fewer log x p (board_pairs c) (in_pairs _ x.from x.to (in_places _ _ _ on.0.0 on.0.1) (in_places _ _ _ on.1.0 on.1.1)) (unsettled_from log p r.unsettled) (and_left _ _ (not_from_true _ (and_from _ _ (same_place_refl x.from) (same_place_refl x.to))))
+      open_fewer log x p (board_pairs c) (in_pairs _ x.from x.to (in_places _ _ _ on.0.0 on.0.1) (in_places _ _ _ on.1.0 on.1.1)) (unsettled_from log p r.unrecorded) (and_left _ _ (not_from_true _ (and_from _ _ (same_place_refl x.from) (same_place_refl x.to))))
 
   enough : (k : ℕ) {n : ℕ} {log : List Record} → Rounds m c n log → open_in log (board_pairs c) ≤ k → next m c (run m c k log) ≡ None
   enough zero {log = log} s h = stops (next m c log) refl

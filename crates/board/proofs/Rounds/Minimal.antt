@@ -54,7 +54,7 @@ module _ {m : Meaning} {c : Content} (laws : Lawful m) (sound : Sound m c) where
   module _ {log : List Record} {x : Record} (p : Priced m (x ∷ log)) (t : Minimal log) (r : Round m c log x) where
     below_new : (a : Record) → In a log → NoDearer m a.cost x.cost
     unfolding Minimal
-    below_new a i = t x r.candidate a i (inl r.unsettled)
+    below_new a i = t x r.candidate a i (inl r.unrecorded)
 
     above_new : (y : Record) → Cost m y.cost → Candidate m c log y → Unrecorded log y.from y.to → NoDearer m x.cost y.cost
     above_new y hy k u = precedes_no_dearer x y (p x (inl refl)) hy (r.first y k u)
@@ -70,7 +70,7 @@ module _ {m : Meaning} {c : Content} (laws : Lawful m) (sound : Sound m c) where
     old_new : (y : Record) → Cost m y.cost → Candidate m c log y → Fits x y → NoDearer m x.cost y.cost
     unfolding Fits
     old_new y hy k (inl u) = above_new y hy k (λ b j. u b (inr j))
-    old_new y hy k (inr e) = above_new y hy k (λ b j e' f'. r.unsettled b j (e' ∙ sym e.0) (f' ∙ sym e.1))
+    old_new y hy k (inr e) = above_new y hy k (λ b j e' f'. r.unrecorded b j (e' ∙ sym e.0) (f' ∙ sym e.1))
 
     minimal_at : (y : Record) → Cost m y.cost → Candidate m c log y ⊎ NoDearer m x.cost y.cost → (a : Record) → In a (x ∷ log) → Fits a y → NoDearer m a.cost y.cost
     unfolding Fits

@@ -16,8 +16,8 @@ distinct {m} {c} begin a b i j e f =
     let y = started m c b j in
     x.1 ∙ ap (start_record m) (ap (λ (z : Record). z.from) (sym x.1) ∙ e ∙ ap (λ (z : Record). z.from) y.1) ∙ sym y.1
 distinct (round s r) a b (inl i) (inl j) e f = i ∙ sym j
-distinct (round s r) a b (inl i) (inr j) e f = absurd (r.unsettled b j (sym e ∙ ap (λ (z : Record). z.from) i) (sym f ∙ ap (λ (z : Record). z.to) i))
-distinct (round s r) a b (inr i) (inl j) e f = absurd (r.unsettled a i (e ∙ ap (λ (z : Record). z.from) j) (f ∙ ap (λ (z : Record). z.to) j))
+distinct (round s r) a b (inl i) (inr j) e f = absurd (r.unrecorded b j (sym e ∙ ap (λ (z : Record). z.from) i) (sym f ∙ ap (λ (z : Record). z.to) i))
+distinct (round s r) a b (inr i) (inl j) e f = absurd (r.unrecorded a i (e ∙ ap (λ (z : Record). z.from) j) (f ∙ ap (λ (z : Record). z.to) j))
 distinct (round s r) a b (inr i) (inr j) e f = distinct s a b i j e f
 
 -- each record of the log starts at a place of the board

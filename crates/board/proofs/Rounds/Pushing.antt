@@ -8,28 +8,28 @@ use Rattle.board.proofs.Basics.Membership.{some_eq, none_some}
 use Rattle.board.specs.declared.log.Record.{Record as LogRecord}
 use Rattle.board.specs.declared.log.Log.{Log}
 use Rattle.board.specs.Logged.{spelled, record_of, logged, blank, records}
-use Rattle.board.specs.Logs.{numbered, filled, Kept, Book, Ready, nth_record, pushed, Refers, pair_of}
+use Rattle.board.specs.Logs.{numbered, settled_count, Kept, Book, Ready, nth_record, pushed, Refers, pair_of}
 use Rattle.board.proofs.Rounds.Logging.{logged_push, logged_set}
 use Rattle.board.proofs.Basics.Numbers.{pair_in}
 
 -- how many pairs have a number
-pub filled_most : (xs : List (Option ℕ)) → filled xs ≤ length xs
-filled_most [] = omega arith
-filled_most (None ∷ xs) = let h = filled_most xs in omega arith
-filled_most (Some i ∷ xs) = let h = filled_most xs in omega arith
+pub settled_count_most : (xs : List (Option ℕ)) → settled_count xs ≤ length xs
+settled_count_most [] = omega arith
+settled_count_most (None ∷ xs) = let h = settled_count_most xs in omega arith
+settled_count_most (Some i ∷ xs) = let h = settled_count_most xs in omega arith
 
-pub filled_less : (xs : List (Option ℕ)) (p : ℕ) → p < length xs → get_or xs p None ≡ None → filled xs < length xs
-filled_less [] p h e = absurd (omega arith)
-filled_less (None ∷ xs) p h e = let k = filled_most xs in omega arith
-filled_less (Some i ∷ xs) zero h e = absurd (none_some _ _ e refl)
-filled_less (Some i ∷ xs) (suc p) h e = let k = filled_less xs p (omega arith) e in omega arith
+pub settled_count_less : (xs : List (Option ℕ)) (p : ℕ) → p < length xs → get_or xs p None ≡ None → settled_count xs < length xs
+settled_count_less [] p h e = absurd (omega arith)
+settled_count_less (None ∷ xs) p h e = let k = settled_count_most xs in omega arith
+settled_count_less (Some i ∷ xs) zero h e = absurd (none_some _ _ e refl)
+settled_count_less (Some i ∷ xs) (suc p) h e = let k = settled_count_less xs p (omega arith) e in omega arith
 
-pub filled_set : (xs : List (Option ℕ)) (p i : ℕ) → p < length xs → get_or xs p None ≡ None → filled (set xs p (Some i)) ≡ filled xs + 1
-filled_set [] p i h e = absurd (omega arith)
-filled_set (None ∷ xs) zero i h e = sym (add-one (filled xs))
-filled_set (Some j ∷ xs) zero i h e = absurd (none_some _ _ e refl)
-filled_set (None ∷ xs) (suc p) i h e = filled_set xs p i (omega arith) e
-filled_set (Some j ∷ xs) (suc p) i h e = let k = filled_set xs p i (omega arith) e in omega arith
+pub settled_count_set : (xs : List (Option ℕ)) (p i : ℕ) → p < length xs → get_or xs p None ≡ None → settled_count (set xs p (Some i)) ≡ settled_count xs + 1
+settled_count_set [] p i h e = absurd (omega arith)
+settled_count_set (None ∷ xs) zero i h e = sym (add-one (settled_count xs))
+settled_count_set (Some j ∷ xs) zero i h e = absurd (none_some _ _ e refl)
+settled_count_set (None ∷ xs) (suc p) i h e = settled_count_set xs p i (omega arith) e
+settled_count_set (Some j ∷ xs) (suc p) i h e = let k = settled_count_set xs p i (omega arith) e in omega arith
 
 -- candidates stay candidates
 pub candidate_stays : {m : Meaning} {c : Content} {log : List Record} (z : Record) {y : Record} → Candidate m c log y → Candidate m c (z ∷ log) y
@@ -37,15 +37,15 @@ candidate_stays z (step a i g) = step a (inr i) g
 candidate_stays z (call a b i g j h) = call a b (inr i) g (inr j) h
 
 -- a fresh record pushed
-module _ {m : Meaning} {c : Content} {l : Log} (ready : Ready m c l) {p : ℕ} {r : LogRecord} (at : p ≡ pair_of c r.from r.to) (unsettled : get_or l.index (pair_of c r.from r.to) None ≡ None) (kept : Kept m c r) (refers : Refers l.count r.derivation) {n : ℕ} (n-is : n ≡ min (length (spelled (records l) r.derivation)) 65536) where
+module _ {m : Meaning} {c : Content} {l : Log} (ready : Ready m c l) {p : ℕ} {r : LogRecord} (at : p ≡ pair_of c r.from r.to) (unrecorded : get_or l.index (pair_of c r.from r.to) None ≡ None) (kept : Kept m c r) (refers : Refers l.count r.derivation) {n : ℕ} (n-is : n ≡ min (length (spelled (records l) r.derivation)) 65536) where
   fresh : get_or l.index p None ≡ None
-  fresh = ap (λ (q : ℕ). get_or l.index q None) at ∙ unsettled
+  fresh = ap (λ (q : ℕ). get_or l.index q None) at ∙ unrecorded
 
   pub pair_here : p < length l.index
   pair_here = let h = pair_in c r.from r.to ready.sound.few_places kept.from_on kept.to_on in omega (arith, ready.book.index_long)
 
   pub room_here : l.count < 4096
-  room_here = let h = filled_less l.index p pair_here fresh in omega (arith, ready.book.full, ready.book.index_long)
+  room_here = let h = settled_count_less l.index p pair_here fresh in omega (arith, ready.book.full, ready.book.index_long)
 
   count_here : l.count < length l.records
   count_here = let h = room_here in omega (arith, ready.book.long)
@@ -93,7 +93,7 @@ module _ {m : Meaning} {c : Content} {l : Log} (ready : Ready m c l) {p : ℕ} {
           (λ (z : q ≡ p). let ni : i ≡ l.count = some_eq _ _ _ (ap (λ (x : ℕ). get_or (set l.index p (Some l.count)) x None) (sym z) ∙ e) (get_or-set_same l.index p (Some l.count) None pair_here) in (omega arith, ap pair_at (ap (numbered (pushed l p r n)) ni ∙ numbered_new) ∙ (sym at ∙ sym z)))
           (λ (ne : q ≡ p → ⊥). let f = ready.book.finds q i (sym (get_or-set_other l.index p q (Some l.count) None ne) ∙ e) in let f0 = f.0 in (omega arith, ap pair_at (numbered_old i f.0) ∙ f.1))
           (cases_eq q p);
-      full = filled_set l.index p l.count pair_here fresh ∙ ap (λ (n : ℕ). n + 1) ready.book.full;
+      full = settled_count_set l.index p l.count pair_here fresh ∙ ap (λ (n : ℕ). n + 1) ready.book.full;
       lengths_long = length-set l.lengths l.count n ∙ ready.book.lengths_long;
       spells = record {
         room = let h = room_here in omega arith;

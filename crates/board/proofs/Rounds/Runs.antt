@@ -6,7 +6,7 @@ use Rattle.costs.specs.Meaning.{Meaning, Lawful, Cost, NoDearer}
 use Rattle.board.specs.Content.{Content, Sound}
 use Rattle.board.specs.Moves.{Place, mode, moment}
 use Rattle.board.specs.Settling.{Cheaper, In, Record, Unrecorded, Precedes, Round, Rounds, round, SettledLog}
-use Rattle.board.specs.Computing.{same_place, unsettled?, candidates, precedes?, first_by, next_of, next, run_on, run}
+use Rattle.board.specs.Computing.{same_place, unrecorded?, candidates, precedes?, first_by, next_of, next, run_on, run}
 use Rattle.board.proofs.Basics.Laws.{no_dearer_eq, cheaper_no_dearer}
 use Rattle.board.proofs.Rounds.Candidates.{listed, unlisted, same_place_eq}
 use Rattle.board.proofs.Rounds.Minimal.{priced, candidate_cost}
@@ -15,7 +15,7 @@ use Rattle.board.proofs.Rounds.Precedence.{first_candidate}
 pub place_same : (p q : Place) → p ≡ q → same_place p q ≡ true
 place_same p q e = and_from _ _ (eq-eqb (mode p) (mode q) (ap (λ (x : Place). mode x) e)) (eq-eqb (moment p) (moment q) (ap (λ (x : Place). moment x) e))
 
-unsettled_true : (log : List Record) (x : Record) → unsettled? log x ≡ true → Unrecorded log x.from x.to
+unsettled_true : (log : List Record) (x : Record) → unrecorded? log x ≡ true → Unrecorded log x.from x.to
 unsettled_true [] x e a i f g = i
 unsettled_true (b ∷ log) x e a (inl i) f g =
     let z = and_parts _ _ e in
@@ -23,7 +23,7 @@ unsettled_true (b ∷ log) x e a (inl i) f g =
     both_ways _ (not-true _ z.0) same
 unsettled_true (b ∷ log) x e a (inr i) f g = unsettled_true log x (and_parts _ _ e).1 a i f g
 
-pub unsettled_from : (log : List Record) (x : Record) → Unrecorded log x.from x.to → unsettled? log x ≡ true
+pub unsettled_from : (log : List Record) (x : Record) → Unrecorded log x.from x.to → unrecorded? log x ≡ true
 unsettled_from [] x u = refl
 unsettled_from (b ∷ log) x u = and_from _ _ (apart (same_place b.from x.from && same_place b.to x.to) refl) (unsettled_from log x (λ a i. u a (inr i)))
   where
@@ -31,22 +31,22 @@ unsettled_from (b ∷ log) x u = and_from _ _ (apart (same_place b.from x.from &
     apart true e = let z = and_parts _ _ e in absurd (u b (inl refl) (same_place_eq _ _ z.0) (same_place_eq _ _ z.1))
     apart false e = refl
 
-in_unsettled : (log xs : List Record) (x : Record) → In x xs → unsettled? log x ≡ true → In x (filter (unsettled? log) xs)
+in_unsettled : (log xs : List Record) (x : Record) → In x xs → unrecorded? log x ≡ true → In x (filter (unrecorded? log) xs)
 in_unsettled log [] x i e = absurd i
-in_unsettled log (y ∷ xs) x i e = kept (unsettled? log y) refl i (λ g. in_unsettled log xs x g e)
+in_unsettled log (y ∷ xs) x i e = kept (unrecorded? log y) refl i (λ g. in_unsettled log xs x g e)
   where
-    kept : (t : Bool) → unsettled? log y ≡ t → (x ≡ y) ⊎ In x xs → (In x xs → In x (filter (unsettled? log) xs)) → In x (cond t (y ∷ filter (unsettled? log) xs) (filter (unsettled? log) xs))
+    kept : (t : Bool) → unrecorded? log y ≡ t → (x ≡ y) ⊎ In x xs → (In x xs → In x (filter (unrecorded? log) xs)) → In x (cond t (y ∷ filter (unrecorded? log) xs) (filter (unrecorded? log) xs))
     kept true f (inl g) rest = inl g
     kept true f (inr g) rest = inr (rest g)
-    kept false f (inl g) rest = absurd (both_ways _ f (ap (unsettled? log) (sym g) ∙ e))
+    kept false f (inl g) rest = absurd (both_ways _ f (ap (unrecorded? log) (sym g) ∙ e))
     kept false f (inr g) rest = rest g
 
-unsettled_in : (log xs : List Record) (x : Record) → In x (filter (unsettled? log) xs) → In x xs × (unsettled? log x ≡ true)
+unsettled_in : (log xs : List Record) (x : Record) → In x (filter (unrecorded? log) xs) → In x xs × (unrecorded? log x ≡ true)
 unsettled_in log [] x i = absurd i
-unsettled_in log (y ∷ xs) x i = kept (unsettled? log y) refl i (unsettled_in log xs x)
+unsettled_in log (y ∷ xs) x i = kept (unrecorded? log y) refl i (unsettled_in log xs x)
   where
-    kept : (t : Bool) → unsettled? log y ≡ t → In x (cond t (y ∷ filter (unsettled? log) xs) (filter (unsettled? log) xs)) → (In x (filter (unsettled? log) xs) → In x xs × (unsettled? log x ≡ true)) → In x (y ∷ xs) × (unsettled? log x ≡ true)
-    kept true f (inl g) rest = (inl g, ap (unsettled? log) g ∙ f)
+    kept : (t : Bool) → unrecorded? log y ≡ t → In x (cond t (y ∷ filter (unrecorded? log) xs) (filter (unrecorded? log) xs)) → (In x (filter (unrecorded? log) xs) → In x xs × (unrecorded? log x ≡ true)) → In x (y ∷ xs) × (unrecorded? log x ≡ true)
+    kept true f (inl g) rest = (inl g, ap (unrecorded? log) g ∙ f)
     kept true f (inr g) rest = let r = rest g in (inr r.0, r.1)
     kept false f g rest = let r = rest g in (inr r.0, r.1)
 
@@ -55,15 +55,15 @@ abbrev pub Reached : Meaning → Content → List Record → Type 0
 Reached m c log = (n : ℕ) × Rounds m c n log
 
 module _ {m : Meaning} {c : Content} (laws : Lawful m) (sound : Sound m c) where
-  kept_cost : {n : ℕ} {log : List Record} → Rounds m c n log → (a : Record) → In a (filter (unsettled? log) (candidates m c log)) → Cost m a.cost
+  kept_cost : {n : ℕ} {log : List Record} → Rounds m c n log → (a : Record) → In a (filter (unrecorded? log) (candidates m c log)) → Cost m a.cost
   kept_cost {log = log} s a i = candidate_cost laws sound (priced laws sound s) (unlisted m c log a (unsettled_in log _ a i).0)
 
   -- what is left has a first candidate
-  first_left : {n : ℕ} {log : List Record} → Rounds m c n log → (y : Record) (ys : List Record) → filter (unsettled? log) (candidates m c log) ≡ y ∷ ys → In (first_by (precedes? m c) y ys) (y ∷ ys) × ((z : Record) → In z (y ∷ ys) → Precedes m c (first_by (precedes? m c) y ys) z)
+  first_left : {n : ℕ} {log : List Record} → Rounds m c n log → (y : Record) (ys : List Record) → filter (unrecorded? log) (candidates m c log) ≡ y ∷ ys → In (first_by (precedes? m c) y ys) (y ∷ ys) × ((z : Record) → In z (y ∷ ys) → Precedes m c (first_by (precedes? m c) y ys) z)
   first_left s y ys e = first_candidate laws c y ys (λ a i. kept_cost s a (subst (λ l. In a l) (sym e) i))
 
   -- what `next` gives is the round's record
-  next_some : {n : ℕ} {log : List Record} → Rounds m c n log → (x : Record) (xs : List Record) → filter (unsettled? log) (candidates m c log) ≡ xs → next_of m c xs ≡ Some x → Round m c log x
+  next_some : {n : ℕ} {log : List Record} → Rounds m c n log → (x : Record) (xs : List Record) → filter (unrecorded? log) (candidates m c log) ≡ xs → next_of m c xs ≡ Some x → Round m c log x
   next_some s x [] e f = absurd cc
   next_some {log = log} s x (y ∷ ys) e f = stop? (m.no_dearer m.worst (first_by (precedes? m c) y ys).cost) refl f
     where
@@ -72,7 +72,7 @@ module _ {m : Meaning} {c : Content} (laws : Lawful m) (sound : Sound m c) where
           let k = unsettled_in log _ b (subst (λ l. In b l) (sym e) i) in
           record {
             candidate = unlisted m c log b k.0;
-            unsettled = unsettled_true log b k.1;
+            unrecorded = unsettled_true log b k.1;
             below = below;
             first = λ z h u. first z (subst (λ l. In z l) e (in_unsettled log _ z (listed m c log z h) (unsettled_from log z u)));
           }
@@ -88,7 +88,7 @@ module _ {m : Meaning} {c : Content} (laws : Lawful m) (sound : Sound m c) where
   next_round s e = next_some s _ _ refl e
 
   -- where `next` gives nothing, nothing below the worst is left
-  next_none : {n : ℕ} {log : List Record} → Rounds m c n log → (xs : List Record) → filter (unsettled? log) (candidates m c log) ≡ xs → next_of m c xs ≡ None → (x : Record) → In x xs → NoDearer m m.worst x.cost
+  next_none : {n : ℕ} {log : List Record} → Rounds m c n log → (xs : List Record) → filter (unrecorded? log) (candidates m c log) ≡ xs → next_of m c xs ≡ None → (x : Record) → In x xs → NoDearer m m.worst x.cost
   next_none s [] e f x i = absurd i
   next_none {log = log} s (y ∷ ys) e f x i = stop? (m.no_dearer m.worst (first_by (precedes? m c) y ys).cost) refl f
     where

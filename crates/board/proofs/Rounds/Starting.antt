@@ -10,7 +10,7 @@ use Rattle.board.proofs.Basics.Membership.{in_split, none_some}
 use Rattle.board.proofs.Rounds.Uniqueness.{number_eq}
 use Rattle.board.specs.declared.log.Log.{Log}
 use Rattle.board.specs.Logged.{blank, records}
-use Rattle.board.specs.Logs.{numbered, nth_record, filled, Book, Ready, empty, pair_of}
+use Rattle.board.specs.Logs.{numbered, nth_record, settled_count, Book, Ready, empty, pair_of}
 use Rattle.board.proofs.Rounds.Logging.{logged_none, in_logged}
 use Rattle.board.proofs.Basics.Numbers.{pair_parts}
 
@@ -19,9 +19,9 @@ none_at A zero p = refl
 none_at A (suc n) zero = refl
 none_at A (suc n) (suc p) = none_at A n p
 
-filled_none : (n : ℕ) → filled (replicate n None) ≡ 0
-filled_none zero = refl
-filled_none (suc n) = filled_none n
+settled_count_none : (n : ℕ) → settled_count (replicate n None) ≡ 0
+settled_count_none zero = refl
+settled_count_none (suc n) = settled_count_none n
 
 no_candidate : {m : Meaning} {c : Content} {log : List Record} {y : Record} → log ≡ [] → Candidate m c log y → ⊥
 no_candidate e (step a i g) = subst (In a) e i
@@ -37,7 +37,7 @@ empty_book m c = record {
   kept = λ i h. absurd (omega arith);
   found = λ i h. absurd (omega arith);
   finds = λ p i e. absurd (none_some _ _ (none_at ℕ 4096 p) e);
-  full = filled_none 4096;
+  full = settled_count_none 4096;
   lengths_long = length-replicate {A = ℕ} 4096 0;
   spells = record { room = omega arith; earlier = λ i h. absurd (omega arith); lengths_are = λ i h. absurd (omega arith) };
 }

@@ -131,7 +131,7 @@ module _ {m : Meaning} {c : Content} (laws : Lawful m) (sound : Sound m c) where
   round_unique {x = x} {y = y} s r r' =
       let hx = candidate_cost laws sound (priced laws sound s) r.candidate in
       let hy = candidate_cost laws sound (priced laws sound s) r'.candidate in
-      let e = precedes_key x y hx hy (r.first y r'.candidate r'.unsettled) (r'.first x r.candidate r.unsettled) in
+      let e = precedes_key x y hx hy (r.first y r'.candidate r'.unrecorded) (r'.first x r.candidate r.unrecorded) in
       let k = keys_parts _ _ _ _ _ _ e in
       let on = candidate_on laws sound s r.candidate in
       let on' = candidate_on laws sound s r'.candidate in
@@ -154,7 +154,7 @@ module _ {m : Meaning} {c : Content} (laws : Lawful m) (sound : Sound m c) where
       let e : z.log ≡ log = same_rounds z.reached d.reached refl in
       let x = z.next in
       let r : Round m c log x = subst (λ l. Round m c l x) e z.round_is in
-      both_ways _ r.below (d.done x r.candidate r.unsettled)
+      both_ways _ r.below (d.done x r.candidate r.unrecorded)
 
   pub unique : {log log' : List Record} → SettledLog m c log → SettledLog m c log' → log ≡ log'
   unique d d' = ⊎_elim (λ (e : d.rounds ≡ d'.rounds). same_rounds d.reached d'.reached e) (λ (f : (d.rounds < d'.rounds) ⊎ (d'.rounds < d.rounds)). absurd (⊎_elim (no_fewer d d'.reached) (no_fewer d' d.reached) f)) (cases_order d.rounds d'.rounds)

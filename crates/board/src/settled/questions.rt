@@ -7,9 +7,9 @@ ghost use Rattle.board.specs.Faults.{RefusesFaults};
 ghost use Rattle.board.specs.Paths.{GrammarIsStack};
 ghost use Rattle.board.specs.Promises.{MovesComputed, OneCost};
 ghost use Rattle.board.specs.Questions.{between_answer, cost_answer, path_answer, path_after};
-ghost use Rattle.board.specs.Meanings.{CostMeans, PathMeans, BetweenMeans};
+ghost use Rattle.board.specs.Meanings.{CostIsCheapest, PathWritesCheapest, BetweenIsLeast};
 
-use crate::bounds::MANY_MOVES;
+use crate::bounds::{MANY_MOVES, MOST_WRITTEN};
 use crate::check::Fault;
 use crate::moves::Move;
 use crate::refusal::Refusal;
@@ -21,7 +21,7 @@ impl<K: Kind> Settled<K> {
     // The recorded cost from the place numbered `from` to the place numbered `to`.
     pub fn between(&self, from: usize, to: usize) -> Result<u32, Refusal>
         ensures answer { result ≡ between_answer (settled_content self.now) (settled_records self.now) from to }
-        ensures means { BetweenMeans K.meaning (settled_content self.now) from to result }
+        ensures means { BetweenIsLeast K.meaning (settled_content self.now) from to result }
     {
         let places = self.tables.modes as usize * self.tables.moments as usize;
         if from >= places || to >= places {
@@ -34,7 +34,7 @@ impl<K: Kind> Settled<K> {
     // The recorded reading's cost and number of moves, 65,536 where it has more.
     pub fn cost(&self) -> Result<(u32, u32), Refusal>
         ensures answer { result ≡ cost_answer K.meaning (settled_content self.now) (settled_records self.now) }
-        ensures means { CostMeans K.meaning (settled_content self.now) (settled_records self.now) result }
+        ensures means { CostIsCheapest K.meaning (settled_content self.now) (settled_records self.now) result }
     {
         let r = self.recorded().ok_or(Refusal::NoReading)?;
         Ok((r.cost, (self.log.lengths[r.before] + 1).min(MANY_MOVES)))
@@ -44,11 +44,11 @@ impl<K: Kind> Settled<K> {
     pub fn path(&self, buffer: &mut [u16]) -> Result<usize, Refusal>
         ensures answer { result ≡ path_answer K.meaning (settled_content self.now) (settled_records self.now) buffer.old }
         ensures after { buffer.new ≡ path_after K.meaning (settled_content self.now) (settled_records self.now) buffer.old }
-        ensures means { PathMeans K.meaning (settled_content self.now) (settled_records self.now) buffer.old result buffer.new }
+        ensures means { PathWritesCheapest K.meaning (settled_content self.now) (settled_records self.now) buffer.old result buffer.new }
     {
         let r = self.recorded().ok_or(Refusal::NoReading)?;
         let moves = self.log.lengths[r.before] as usize;
-        if moves >= buffer.len() || moves + 1 >= MANY_MOVES as usize {
+        if moves >= buffer.len() || moves >= MOST_WRITTEN {
             return Err(Refusal::TooLong);
         }
         let n = write_moves(&self.log, r.before, buffer);

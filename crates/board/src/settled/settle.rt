@@ -3,7 +3,7 @@ ghost use Rattle.std.specs.Prelude.{◌≡◌};
 ghost use Rattle.board.specs.Held.{draft_content};
 ghost use Rattle.board.specs.Boards.{settled_content, settled_records};
 ghost use Rattle.board.specs.Settling.{SettledLog};
-ghost use Rattle.board.specs.Promises.{RecordsAreLeast, RecordedIsCheapest, HoldsOfEveryContent};
+ghost use Rattle.board.specs.Promises.{RecordsAreLeast, RecordedIsCheapest, CallsKeepEaseAndSettle};
 ghost use Rattle.board.specs.Computing.{settled_log};
 ghost use Rattle.board.specs.Examples.{SettlingExamples};
 
@@ -18,7 +18,7 @@ impl<K: Kind> Draft<K> {
         ensures content { settled_content result ≡ draft_content self }
         ensures records { SettledLog K.meaning (draft_content self) (settled_records result) }
         ensures computed { settled_records result ≡ settled_log K.meaning (draft_content self) }
-        ensures promises { HoldsOfEveryContent }
+        ensures promises { CallsKeepEaseAndSettle }
         ensures example { SettlingExamples }
         ensures least { RecordsAreLeast K.meaning (draft_content self) (settled_records result) }
         ensures cheapest { RecordedIsCheapest K.meaning (draft_content self) (settled_records result) }

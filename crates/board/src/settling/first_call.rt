@@ -5,10 +5,10 @@ ghost use Rattle.board.specs.declared.row.RowKind.TheVariants.{Open};
 ghost use Rattle.board.specs.Held.{held};
 ghost use Rattle.board.specs.Moves.{mode, move_row};
 ghost use Rattle.board.specs.Logs.{pair_of};
-ghost use Rattle.board.specs.Lowering.{Bounds};
+ghost use Rattle.board.specs.Lowering.{LowerBound};
 ghost use Rattle.board.specs.Minima.{Link, Led};
 ghost use Rattle.board.specs.Minimizing.{LinksOf};
-ghost use Rattle.board.specs.Winning.{GoalOn, FindsOf, CallAt, CallsBy, CallsOpened, Calls, TightOf, BracketRows, Serve, ServeIn};
+ghost use Rattle.board.specs.Winning.{GoalOn, FindsOf, IsCallAt, IsCallBy, IsCallOpenedBy, IsCall, TightOf, BracketRows, Serve, ServeIn};
 
 use crate::bounds::ROWS;
 use crate::log::Derivation;
@@ -22,7 +22,7 @@ impl<K: Kind> Known<'_, K> {
         requires on { GoalOn (held self.now.tables.now) goal }
         requires rows { BracketRows (held self.now.tables.now) goal o w a b }
         requires moment { moment < (held self.now.tables.now).moments }
-        ensures { FindsOf K.meaning self.now goal (CallAt o w moment) result }
+        ensures { FindsOf K.meaning self.now goal (IsCallAt o w moment) result }
     {
         let Some(i) = self.log.at(self.tables.pair(goal.from, (a.from, moment))) else {
             return None;
@@ -46,7 +46,7 @@ impl<K: Kind> Known<'_, K> {
         requires on { GoalOn (held self.now.tables.now) goal }
         requires rows { BracketRows (held self.now.tables.now) goal o w a b }
         requires tight { TightOf K.meaning self.now goal tight.now }
-        ensures { FindsOf K.meaning self.now goal (CallsBy o w) result }
+        ensures { FindsOf K.meaning self.now goal (IsCallBy o w) result }
     {
         for n in 0..tight.len() {
             let place = self.tables.place(tight[n] as usize);
@@ -69,7 +69,7 @@ impl<K: Kind> Known<'_, K> {
         requires moment { moment < (held self.now.tables.now).moments }
         requires front { slice_index_or self.now.log.now.index (pair_of (held self.now.tables.now) goal.from (a.from, moment)) ANone ≡ ASome i }
         requires closers { ServeIn K.meaning (held self.now.tables.now) a.label (mode goal.to) closers.now }
-        ensures { result ≡ false → (w : ℕ) → FindsOf K.meaning self.now goal (CallAt o w moment) ANone }
+        ensures { result ≡ false → (w : ℕ) → FindsOf K.meaning self.now goal (IsCallAt o w moment) ANone }
     {
         let front = K::join(self.log.records[i].cost, a.cost);
         for n in 0..closers.len() {
@@ -94,7 +94,7 @@ impl<K: Kind> Known<'_, K> {
         requires opens { a.kind ≡ Open }
         requires closers { ServeIn K.meaning (held self.now.tables.now) a.label (mode goal.to) closers.now }
         requires tight { TightOf K.meaning self.now goal tight.now }
-        ensures { result ≡ false → FindsOf K.meaning self.now goal (CallsOpened o) ANone }
+        ensures { result ≡ false → FindsOf K.meaning self.now goal (IsCallOpenedBy o) ANone }
     {
         for n in 0..tight.len() {
             let place = self.tables.place(tight[n] as usize);
@@ -125,7 +125,7 @@ impl<K: Kind> Known<'_, K> {
         requires short { length closers.now ≤ ROWS }
         requires closers { Serve K.meaning (held self.now.tables.now) (mode goal.to) closers.now }
         requires tight { TightOf K.meaning self.now goal tight.now }
-        ensures { FindsOf K.meaning self.now goal (CallsOpened o) result }
+        ensures { FindsOf K.meaning self.now goal (IsCallOpenedBy o) result }
     {
         let own = self.closers_of(a.label, goal.to.0, closers);
         if !self.reaches(goal, o, a, &own, tight) {
@@ -151,8 +151,8 @@ impl<K: Kind> Known<'_, K> {
         requires leads { length leads.now ≡ ROWS }
         requires led { Led K.meaning (held self.now.tables.now) leads.now }
         requires links { LinksOf K.meaning self.now links.now }
-        requires links_bounds { Bounds K.meaning (Link K.meaning (held self.now.tables.now) self.now.log.now) links.now }
-        ensures { FindsOf K.meaning self.now goal Calls result }
+        requires links_bounds { LowerBound K.meaning (Link K.meaning (held self.now.tables.now) self.now.log.now) links.now }
+        ensures { FindsOf K.meaning self.now goal IsCall result }
     {
         let closers = self.closers(goal.to.0, leads);
         let tight = self.tight(goal, links);

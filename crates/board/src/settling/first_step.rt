@@ -5,8 +5,7 @@ ghost use Rattle.board.specs.declared.row.RowKind.TheVariants.{Plain as APlain};
 ghost use Rattle.board.specs.declared.moves.Effect.TheVariants.{Quiet};
 ghost use Rattle.board.specs.Held.{held};
 ghost use Rattle.board.specs.Moves.{Place as APlace, moment, On, Transition, move_row};
-ghost use Rattle.board.specs.Computing.{same_place};
-ghost use Rattle.board.specs.Winning.{GoalOn, FindsOf, StepOf, StepsBy, Steps, Gathered, LineTo};
+ghost use Rattle.board.specs.Winning.{GoalOn, FindsOf, IsStepOf, IsStepBy, IsStep, Gathered, LineTo};
 
 use crate::log::Derivation;
 use crate::moves::{Effect, Move, Place};
@@ -14,20 +13,13 @@ use crate::row::{Row, RowKind};
 use crate::settling::{Goal, Known};
 use costs::Kind;
 
-// Whether the two places are one.
-fn same_place(p: Place, q: Place) -> bool
-    ensures { result ≡ same_place p q }
-{
-    p.0 == q.0 && p.1 == q.1
-}
-
 impl<K: Kind> Known<'_, K> {
     // The step by the move from the place, from where alone it can lead to where the goal ends.
     fn step_from(&self, goal: Goal, v: Move, place: Place) -> Option<Derivation>
         requires on { GoalOn (held self.now.tables.now) goal }
         requires place { On (held self.now.tables.now) place }
         requires starts { (p : APlace) (k : ℕ) → Transition K.meaning (held self.now.tables.now) v p goal.to k Quiet → p ≡ place }
-        ensures { FindsOf K.meaning self.now goal (StepOf v) result }
+        ensures { FindsOf K.meaning self.now goal (IsStepOf v) result }
     {
         let Some(i) = self.log.at(self.tables.pair(goal.from, place)) else {
             return None;
@@ -38,7 +30,7 @@ impl<K: Kind> Known<'_, K> {
         let Effect::Quiet = h.effect else {
             return None;
         };
-        if !same_place(h.to, goal.to) {
+        if h.to != goal.to {
             return None;
         }
         if K::join(self.log.records[i].cost, h.cost) != goal.cost {
@@ -54,7 +46,7 @@ impl<K: Kind> Known<'_, K> {
         requires timed { r.label ≡ 0 → ⊥ }
         requires plain { r.kind ≡ APlain }
         requires lines { Gathered (LineTo (held self.now.tables.now) (moment goal.to)) (length (held self.now.tables.now).lines) lines.now }
-        ensures { FindsOf K.meaning self.now goal (StepsBy row) result }
+        ensures { FindsOf K.meaning self.now goal (IsStepBy row) result }
     {
         for n in 0..lines.len() {
             if let Some(line) = self.tables.line(lines[n]) {
@@ -76,7 +68,7 @@ impl<K: Kind> Known<'_, K> {
     fn step_by(&self, goal: Goal, row: u8, lines: &[u8]) -> Option<Derivation>
         requires on { GoalOn (held self.now.tables.now) goal }
         requires lines { Gathered (LineTo (held self.now.tables.now) (moment goal.to)) (length (held self.now.tables.now).lines) lines.now }
-        ensures { FindsOf K.meaning self.now goal (StepsBy row) result }
+        ensures { FindsOf K.meaning self.now goal (IsStepBy row) result }
     {
         let Some(r) = self.tables.row(row) else {
             return None;
@@ -97,7 +89,7 @@ impl<K: Kind> Known<'_, K> {
     // The first step of all.
     pub(crate) fn first_step(&self, goal: Goal) -> Option<Derivation>
         requires on { GoalOn (held self.now.tables.now) goal }
-        ensures { FindsOf K.meaning self.now goal Steps result }
+        ensures { FindsOf K.meaning self.now goal IsStep result }
     {
         let lines = self.lines_to(goal.to.1);
         let rows = self.tables.rows.len() as u8;

@@ -2,7 +2,7 @@
 ghost use Rattle.std.specs.Prelude.{◌≡◌, ◌≤◌, length};
 ghost use Rattle.costs.specs.Meaning.{Cost};
 ghost use Rattle.board.specs.Held.{held};
-ghost use Rattle.board.specs.Lowering.{Bounds};
+ghost use Rattle.board.specs.Lowering.{LowerBound};
 ghost use Rattle.board.specs.Minima.{Link, Led};
 ghost use Rattle.board.specs.Minimizing.{LinksOf};
 ghost use Rattle.board.specs.Winning.{GoalOn, Gathered, LineTo, TightOf, Serve, ServeIn};
@@ -34,7 +34,7 @@ impl<K: Kind> Known<'_, K> {
         requires on { GoalOn (held self.now.tables.now) goal }
         requires cost { Cost K.meaning goal.cost }
         requires links { LinksOf K.meaning self.now links.now }
-        requires bounds { Bounds K.meaning (Link K.meaning (held self.now.tables.now) self.now.log.now) links.now }
+        requires bounds { LowerBound K.meaning (Link K.meaning (held self.now.tables.now) self.now.log.now) links.now }
         ensures { TightOf K.meaning self.now goal result.items }
     {
         let mut found = ArrayVec::new();

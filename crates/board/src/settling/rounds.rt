@@ -4,20 +4,29 @@ ghost use Rattle.board.specs.Held.{held};
 ghost use Rattle.board.specs.Settling.{SettledLog};
 ghost use Rattle.board.specs.Logged.{record_of, records};
 ghost use Rattle.board.specs.Logs.{Kept, Book, Reached, RoundAdded, Refers, pair_of};
-ghost use Rattle.board.specs.Minima.{State};
+ghost use Rattle.board.specs.Minima.{SettlingInvariant};
 ghost use Rattle.board.specs.Winning.{LeastPair};
 
 use crate::bounds::{PAIRS, PLACES, ROWS};
 use crate::log::{Derivation, Log, Record};
 use crate::settling::candidates::least_pair;
-use crate::settling::{Goal, Known, Minima, Settling, Waiting};
+use crate::settling::{Goal, Known, Minima, Waiting};
 use crate::tables::Tables;
 use costs::Kind;
+
+// The log so far and the least costs. The tables are lent to each call. (What holds of both together stays a clause, `state`,
+// of the methods: it holds data that the next call needs, and a ghost field must be a proposition, or be squashed into one
+// that gives no data back.)
+#[derive(Drop)]
+pub(crate) struct Settling {
+    log: Log,
+    minima: Minima,
+}
 
 impl Settling {
     // Nothing settled: links by moves without brackets only, and the rows that lead.
     fn empty<K: Kind>(tables: &Tables<K>) -> Settling
-        ensures state { State K.meaning (held tables.now) result.log result.minima }
+        ensures state { SettlingInvariant K.meaning (held tables.now) result.log result.minima }
         ensures records { records result.log ≡ [] }
     {
         let mut settling = Settling {
@@ -39,11 +48,11 @@ impl Settling {
     // Settles a record, finds the least from its first place anew, and lowers what it makes cheaper: candidates that go on from
     // it, and links that it is inside.
     fn settle<K: Kind>(&mut self, tables: &Tables<K>, r: Record)
-        requires state { State K.meaning (held tables.now) self.old.log self.old.minima }
+        requires state { SettlingInvariant K.meaning (held tables.now) self.old.log self.old.minima }
         requires fresh { slice_index_or self.old.log.index (pair_of (held tables.now) r.from r.to) ANone ≡ ANone }
         requires kept { Kept K.meaning (held tables.now) r }
         requires refers { Refers self.old.log.count r.derivation }
-        ensures state { State K.meaning (held tables.now) self.new.log self.new.minima }
+        ensures state { SettlingInvariant K.meaning (held tables.now) self.new.log self.new.minima }
         ensures more { records self.new.log ≡ record_of (records self.old.log) r ∷ records self.old.log }
         ensures count { self.new.log.count ≡ self.old.log.count + 1 }
     {
@@ -62,9 +71,9 @@ impl Settling {
 
     // Settles the diagonal, each place to itself, free.
     fn begin<K: Kind>(&mut self, tables: &Tables<K>)
-        requires state { State K.meaning (held tables.now) self.old.log self.old.minima }
+        requires state { SettlingInvariant K.meaning (held tables.now) self.old.log self.old.minima }
         requires nothing { records self.old.log ≡ [] }
-        ensures state { State K.meaning (held tables.now) self.new.log self.new.minima }
+        ensures state { SettlingInvariant K.meaning (held tables.now) self.new.log self.new.minima }
         ensures reached { Reached K.meaning (held tables.now) (records self.new.log) }
     {
         for mode in 0..tables.modes {
@@ -83,10 +92,10 @@ impl Settling {
 
     // Makes one round: settles the pair, for which the least candidate below the worst waits.
     fn round<K: Kind>(&mut self, tables: &Tables<K>, pair: usize)
-        requires state { State K.meaning (held tables.now) self.old.log self.old.minima }
+        requires state { SettlingInvariant K.meaning (held tables.now) self.old.log self.old.minima }
         requires reached { Reached K.meaning (held tables.now) (records self.old.log) }
         requires least { LeastPair K.meaning self.old.log self.old.minima.waiting.costs PAIRS pair }
-        ensures state { State K.meaning (held tables.now) self.new.log self.new.minima }
+        ensures state { SettlingInvariant K.meaning (held tables.now) self.new.log self.new.minima }
         ensures reached { Reached K.meaning (held tables.now) (records self.new.log) }
         ensures added { RoundAdded K.meaning (held tables.now) self.old.log self.new.log }
     {

@@ -3,7 +3,7 @@ ghost use Rattle.std.specs.Prelude.{◌≡◌, length};
 ghost use Rattle.costs.specs.Meaning.{Cost};
 ghost use Rattle.board.specs.Held.{held};
 ghost use Rattle.board.specs.Settling.{Record as ARecord};
-ghost use Rattle.board.specs.Lowering.{Bounds};
+ghost use Rattle.board.specs.Lowering.{LowerBound};
 ghost use Rattle.board.specs.Minima.{Link, Led};
 ghost use Rattle.board.specs.Minimizing.{LinksOf};
 ghost use Rattle.board.specs.Winning.{GoalOn, Makes, Wins, Any};
@@ -21,7 +21,7 @@ impl<K: Kind> Known<'_, K> {
         requires leads { length leads.now ≡ ROWS }
         requires led { Led K.meaning (held self.now.tables.now) leads.now }
         requires links { LinksOf K.meaning self.now links.now }
-        requires links_bounds { Bounds K.meaning (Link K.meaning (held self.now.tables.now) self.now.log.now) links.now }
+        requires links_bounds { LowerBound K.meaning (Link K.meaning (held self.now.tables.now) self.now.log.now) links.now }
         requires some { (y : ARecord) × Makes K.meaning (held self.now.tables.now) self.now.log.now goal y }
         ensures { Wins K.meaning (held self.now.tables.now) self.now.log.now goal Any result }
     {

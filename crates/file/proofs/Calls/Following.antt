@@ -8,7 +8,7 @@ use Rattle.board.specs.Content.{Content, new}
 use Rattle.board.specs.Held.{draft_content}
 use Rattle.board.specs.Boards.{settled_content, settled_records}
 use Rattle.board.specs.Settling.{Record}
-use Rattle.board.specs.Promises.{HoldsOfEveryContent}
+use Rattle.board.specs.Promises.{CallsKeepEaseAndSettle}
 use Rattle.file.specs.declared.call.Call.{Call}
 use Rattle.file.specs.declared.call.Call.TheVariants as call
 use Rattle.file.specs.declared.boards.Board.{Board}
@@ -17,7 +17,7 @@ use Rattle.file.specs.States.{State, draft, settled, edited, on_draft, on_settle
 use Rattle.file.specs.declared.call.Answer.{Answer}
 use Rattle.file.specs.declared.call.Answer.TheVariants as answer
 use Rattle.file.specs.Answers.{draft_answer, settled_answer, settled_buffer, step_answer_draft, step_answer_settled, step_answer, step_buffer, NoteStands, GivesItsNumbers}
-use Rattle.file.specs.Histories.{state_of, records_of, defined_records, records_defined, Holds, Follows}
+use Rattle.file.specs.Histories.{state_of, records_of, defined_records, records_defined, MadeBy, OneCallMore}
 use Rattle.file.proofs.Loads.Standing.{asked_stands}
 use Rattle.file.proofs.Calls.Numbers.{gives_its_numbers}
 use Rattle.file.proofs.Promising.{state_split, main_promise}
@@ -31,7 +31,7 @@ Step m b x buffer next told left =
       after : left ≡ step_buffer m (state_of b) (records_of b) x buffer;
       note : NoteStands m x told;
       numbers : GivesItsNumbers;
-      history : (calls : List Call) → Holds m calls b → Follows m calls x buffer next told left;
+      history : (calls : List Call) → MadeBy m calls b → OneCallMore m calls x buffer next told left;
     }
 
 -- a draft that is not settled keeps being one
@@ -52,7 +52,7 @@ settled_told : (m : Meaning) (c : Content) (log : List Record) (x : Call) (buffe
 settled_told m c log call.Reopen buffer other = absurd (other refl)
 settled_told m c log x buffer other = refl
 
-module _ {K : Type 0} {k : Ghosts K} (laws : Lawful k.meaning) (promises : HoldsOfEveryContent) where
+module _ {K : Type 0} {k : Ghosts K} (laws : Lawful k.meaning) (promises : CallsKeepEaseAndSettle) where
   follows : (b : Board K k) (x : Call) (buffer : List ℕ) (after : Board K k) (told : Answer) (left : List ℕ) → state_of after ≡ stepped k.meaning (state_of b) x → told ≡ step_answer k.meaning (state_of b) (records_of b) x buffer → left ≡ step_buffer k.meaning (state_of b) (records_of b) x buffer → NoteStands k.meaning x told → Step k.meaning b x buffer after told left
   follows b x buffer after told left state answer written note = record {
     state = state;

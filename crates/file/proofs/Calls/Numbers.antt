@@ -17,7 +17,7 @@ use Rattle.board.specs.Arrivals.{arrival_by}
 use Rattle.board.specs.Content.{Content, new}
 use Rattle.board.specs.Calls.{size_fault, size_after, row_fault, row_after, line_fault, line_after, reprice_fault}
 use Rattle.board.specs.Checks.{bracketed, Progress, before_moves, arrived, take_named, named_by_number, take_move, or_fault, checked_from, check_answer}
-use Rattle.board.specs.Computing.{ReadingFound, record_between, recorded_reading}
+use Rattle.board.specs.Computing.{Reading, record_between, recorded_reading}
 use Rattle.board.specs.Packing.{unpacked}
 use Rattle.board.specs.Questions.{recorded_cost, cost_told, path_told, between_answer}
 use Rattle.board.specs.Refusals.{number, answer}
@@ -28,13 +28,13 @@ use Rattle.file.specs.declared.refusal.FileRefusal.{FileRefusal}
 use Rattle.file.specs.declared.refusal.FileRefusal.TheVariants as refused
 use Rattle.file.specs.declared.refusal.LoadFault.{LoadFault}
 use Rattle.file.specs.Fields.{word4, word8, header_read, row_read, line_read}
-use Rattle.file.specs.Parts.{Piece}
-use Rattle.file.specs.Records.{go_on, at_place, called, row_added, line_added, trusted_line, row_record, line_record, record_next, records}
+use Rattle.file.specs.Parts.{PartRead}
+use Rattle.file.specs.Records.{go_on, at_place, called, row_added, line_added, trusted_line, row_record, line_record, record_next, records_added}
 use Rattle.file.specs.Refusals.{file_number}
-use Rattle.file.specs.Sections.{rows_code, lines_code, note_code, Found, next_section, past}
+use Rattle.file.specs.Sections.{rows_code, lines_code, note_code, SectionRead, next_section, past}
 use Rattle.file.specs.Load.{Loaded, loaded_as, with_content, section_added, comes, in_turn, at_end, from_note, from_lines, from_rows, sized, opened, loaded, note_answer, load_answer, after_header, no_note}
 use Rattle.file.specs.States.{draft, settled}
-use Rattle.file.specs.Answers.{spanned, number_of, refused_with, step_answer, can_give, GivesItsNumbers}
+use Rattle.file.specs.Answers.{spanned, error_number, refused_with, step_answer, can_give, GivesItsNumbers}
 
 -- whether a number is in the list, and what that says
 abbrev among : ℕ → List ℕ → Bool
@@ -50,7 +50,7 @@ listed n (k ∷ ks) e = by (eqb n k) refl e (listed n ks)
     by false h t rest = inr (rest t)
 
 -- the number of an answer's error is one of the list's, where each error's is
-given : {X E : Type 0} (f : E → ℕ) (r : Result X E) (ks : List ℕ) (n : ℕ) → IfErr r (λ e. among (f e) ks ≡ true) → number_of f r ≡ Some n → In n ks
+given : {X E : Type 0} (f : E → ℕ) (r : Result X E) (ks : List ℕ) (n : ℕ) → IfErr r (λ e. among (f e) ks ≡ true) → error_number f r ≡ Some n → In n ks
 given f (Ok x) ks n h e = absurd cc
 given f (Err y) ks n h e =
     let same : f y ≡ n = cc in
@@ -93,11 +93,11 @@ module _ (P : Refusal → Type 0) where
 
 -- the questions
 module _ (P : Refusal → Type 0) where
-  costs : (o : Option ReadingFound) → P refusal.NoReading → IfErr (cost_told o) P
+  costs : (o : Option Reading) → P refusal.NoReading → IfErr (cost_told o) P
   costs None h = h
   costs (Some f) h = tt
 
-  paths : (o : Option ReadingFound) (buffer : List ℕ) → P refusal.NoReading → P refusal.TooLong → IfErr (path_told o buffer) P
+  paths : (o : Option Reading) (buffer : List ℕ) → P refusal.NoReading → P refusal.TooLong → IfErr (path_told o buffer) P
   paths None buffer h k = h
   paths (Some f) buffer h k = either P _ (Ok (length f.moves)) (Err refusal.TooLong) tt k
 
@@ -173,29 +173,29 @@ module _ (m : Meaning) (file : Bor (List ℕ)) where
       on Own (line_read w) (λ l. line_added m c (trusted_line m t l)) (read_line w)
       (λ l. calls (line_fault m c (trusted_line m t l)) (line_after m c (trusted_line m t l)) (line OwnBoard m c (trusted_line m t l) refl refl refl refl))
 
-  each : (add : Content → ℕ → Result Content FileRefusal) → ((c : Content) (w : ℕ) → IfErr (add c w) Own) → (n : ℕ) (bs : List ℕ) (place : ℕ) (c : Content) → IfErr (records add n bs place c) OwnAt
-  unfolding records
+  each : (add : Content → ℕ → Result Content FileRefusal) → ((c : Content) (w : ℕ) → IfErr (add c w) Own) → (n : ℕ) (bs : List ℕ) (place : ℕ) (c : Content) → IfErr (records_added add n bs place c) OwnAt
+  unfolding records_added
   each add k zero bs place c = tt
   each add k (suc n) bs place c =
       on OwnAt (at_place (record_next add bs c) place) _
       (places (record_next add bs c) place (either Own (ltb (length bs) 8) (Err refused.CutShort) (add c (word8 bs)) refl (k c (word8 bs))))
       (λ d. each add k n (drop 8 bs) (place + 8) d)
 
-  section : (t : ℕ) (f : Found) (x : Loaded) → IfErr (section_added m t f x) OwnAt
+  section : (t : ℕ) (f : SectionRead) (x : Loaded) → IfErr (section_added m t f x) OwnAt
   section t f x =
-      either OwnAt (eqb f.code rows_code) _ _ (on OwnAt (records (row_record m) f.count f.part.bytes f.part.place x.content) (with_content x) (each (row_record m) a_row f.count f.part.bytes f.part.place x.content) (λ d. tt))
-      (either OwnAt (eqb f.code lines_code) _ _ (on OwnAt (records (line_record m t) f.count f.part.bytes f.part.place x.content) (with_content x) (each (line_record m t) (a_line t) f.count f.part.bytes f.part.place x.content) (λ d. tt))
+      either OwnAt (eqb f.code rows_code) _ _ (on OwnAt (records_added (row_record m) f.count f.part.bytes f.part.place x.content) (with_content x) (each (row_record m) a_row f.count f.part.bytes f.part.place x.content) (λ d. tt))
+      (either OwnAt (eqb f.code lines_code) _ _ (on OwnAt (records_added (line_record m t) f.count f.part.bytes f.part.place x.content) (with_content x) (each (line_record m t) (a_line t) f.count f.part.bytes f.part.place x.content) (λ d. tt))
       (either OwnAt (ltb (length f.part.bytes) f.count) _ _ refl tt))
 
-  turn : (t code : ℕ) (next : Piece → Loaded → Result Loaded LoadFault) → ((p : Piece) (x : Loaded) → IfErr (next p x) OwnAt) → (p : Piece) (x : Loaded) → IfErr (in_turn m t code next p x) OwnAt
+  turn : (t code : ℕ) (next : PartRead → Loaded → Result Loaded LoadFault) → ((p : PartRead) (x : Loaded) → IfErr (next p x) OwnAt) → (p : PartRead) (x : Loaded) → IfErr (in_turn m t code next p x) OwnAt
   turn t code next k p x =
       either OwnAt (comes code p) _ _ (on OwnAt (section_added m t (next_section p) x) (next (past p)) (section t (next_section p) x) (λ y. k (past p) y)) (k p x)
 
-  ending : (p : Piece) (x : Loaded) → IfErr (at_end p x) OwnAt
+  ending : (p : PartRead) (x : Loaded) → IfErr (at_end p x) OwnAt
   unfolding at_end
   ending p x = either OwnAt (eqb (length p.bytes) 0) _ _ tt (either OwnAt (ltb (length p.bytes) 2) _ _ refl refl)
 
-  sections : (t : ℕ) (p : Piece) (x : Loaded) → IfErr (from_rows m t p x) OwnAt
+  sections : (t : ℕ) (p : PartRead) (x : Loaded) → IfErr (from_rows m t p x) OwnAt
   unfolding from_rows from_lines from_note
   sections t = turn t rows_code (from_lines m t) (turn t lines_code (from_note m t) (turn t note_code at_end ending))
 
@@ -221,7 +221,7 @@ abbrev Has : List ℕ → Refusal → Type 0
 Has ks e = among (number e) ks ≡ true
 
 -- a call of the board that is declined by one of these
-called_with : {X : Type 0} (ks : List ℕ) (o : Option Refusal) (x : X) (n : ℕ) → IfSome o (Has ks) → number_of number (answer o x) ≡ Some n → In n ks
+called_with : {X : Type 0} (ks : List ℕ) (o : Option Refusal) (x : X) (n : ℕ) → IfSome o (Has ks) → error_number number (answer o x) ≡ Some n → In n ks
 called_with ks o x n h e = given number (answer o x) ks n (answers (Has ks) o x h) e
 
 -- every call; of those that are left out none answers a refusal

@@ -4,17 +4,22 @@ use Rattle.std.specs.Result.{IfOk}
 use Rattle.costs.specs.Meaning.{Meaning}
 use Rattle.board.specs.declared.refusal.Refusal.{Refusal}
 use Rattle.board.specs.Content.{Content, new, Sound}
-use Rattle.board.specs.Calls.{CallsKeep, size_fault, size_after, row_fault, row_after, line_fault, line_after}
+use Rattle.board.specs.Calls.{CallsKeepSound, size_fault, size_after, row_fault, row_after, line_fault, line_after}
 use Rattle.file.specs.declared.refusal.FileRefusal.{FileRefusal}
 use Rattle.file.specs.declared.refusal.LoadFault.{LoadFault}
 use Rattle.file.specs.declared.call.Call.{Call}
 use Rattle.file.specs.declared.call.Call.TheVariants as call
 use Rattle.file.specs.Fields.{word4, word8, header_read, row_read, line_read}
-use Rattle.file.specs.Parts.{Piece}
-use Rattle.file.specs.Sections.{rows_code, lines_code, note_code, Found, next_section, past}
-use Rattle.file.specs.Records.{go_on, at_place, called, row_added, line_added, trusted_line, row_record, line_record, record_next, records}
+use Rattle.file.specs.Parts.{PartRead}
+use Rattle.file.specs.Sections.{rows_code, lines_code, note_code, SectionRead, next_section, past}
+use Rattle.file.specs.Records.{go_on, at_place, called, row_added, line_added, trusted_line, row_record, line_record, record_next, records_added}
 use Rattle.file.specs.Load.{Loaded, loaded_as, with_content, section_added, comes, in_turn, at_end, from_note, from_lines, from_rows, sized, opened, filled, loaded, content_left, load_after, after_header, no_note}
-use Rattle.file.specs.States.{State, draft, settled, content, edited, stepped, state_from}
+use Rattle.file.specs.States.{State, draft, settled, edited, stepped, state_from}
+
+-- the content of a state
+abbrev pub content : State → Content
+content (draft c) = c
+content (settled c) = c
 
 module _ {X E : Type 0} (P : X → Type 0) where
   cond_all : (b : Bool) (x y : Result X E) → IfOk x P → IfOk y P → IfOk (cond b x y) P
@@ -37,7 +42,7 @@ called_all : (P : Content → Type 0) (o : Option Refusal) (after : Content) →
 called_all P None after h = h
 called_all P (Some e) after h = tt
 
-module _ (m : Meaning) (keep : CallsKeep m) where
+module _ (m : Meaning) (keep : CallsKeepSound m) where
   -- a way to put a record on the board keeps its content sound
   abbrev Keeps : (Content → ℕ → Result Content FileRefusal) → Type 0
   Keeps add = (c : Content) (w : ℕ) → Sound m c → IfOk (add c w) (Sound m)
@@ -50,8 +55,8 @@ module _ (m : Meaning) (keep : CallsKeep m) where
   unfolding line_added
   line_sound t c w h = go_on_all (Sound m) (λ _. Unit {0}) (line_read w) (λ l. line_added m c (trusted_line m t l)) (any _) (λ l _. called_all (Sound m) (line_fault m c (trusted_line m t l)) (line_after m c (trusted_line m t l)) (keep.line_added c (trusted_line m t l) h))
 
-  records_sound : (add : Content → ℕ → Result Content FileRefusal) → Keeps add → (n : ℕ) (bs : List ℕ) (place : ℕ) (c : Content) → Sound m c → IfOk (records add n bs place c) (Sound m)
-  unfolding records
+  records_sound : (add : Content → ℕ → Result Content FileRefusal) → Keeps add → (n : ℕ) (bs : List ℕ) (place : ℕ) (c : Content) → Sound m c → IfOk (records_added add n bs place c) (Sound m)
+  unfolding records_added
   records_sound add k zero bs place c h = h
   records_sound add k (suc n) bs place c h =
       go_on_all (Sound m) (Sound m) (at_place (record_next add bs c) place) _
@@ -61,21 +66,21 @@ module _ (m : Meaning) (keep : CallsKeep m) where
   abbrev Fine : Loaded → Type 0
   Fine x = Sound m x.content
 
-  section_sound : (t : ℕ) (f : Found) (x : Loaded) → Fine x → IfOk (section_added m t f x) Fine
+  section_sound : (t : ℕ) (f : SectionRead) (x : Loaded) → Fine x → IfOk (section_added m t f x) Fine
   section_sound t f x h =
-      cond_all Fine (eqb f.code rows_code) _ _ (go_on_all Fine (Sound m) (records (row_record m) f.count f.part.bytes f.part.place x.content) (with_content x) (records_sound (row_record m) row_sound f.count f.part.bytes f.part.place x.content h) (λ d k. k))
-      (cond_all Fine (eqb f.code lines_code) _ _ (go_on_all Fine (Sound m) (records (line_record m t) f.count f.part.bytes f.part.place x.content) (with_content x) (records_sound (line_record m t) (line_sound t) f.count f.part.bytes f.part.place x.content h) (λ d k. k))
+      cond_all Fine (eqb f.code rows_code) _ _ (go_on_all Fine (Sound m) (records_added (row_record m) f.count f.part.bytes f.part.place x.content) (with_content x) (records_sound (row_record m) row_sound f.count f.part.bytes f.part.place x.content h) (λ d k. k))
+      (cond_all Fine (eqb f.code lines_code) _ _ (go_on_all Fine (Sound m) (records_added (line_record m t) f.count f.part.bytes f.part.place x.content) (with_content x) (records_sound (line_record m t) (line_sound t) f.count f.part.bytes f.part.place x.content h) (λ d k. k))
       (cond_all Fine (ltb (length f.part.bytes) f.count) _ _ tt h))
 
-  turn_sound : (t code : ℕ) (next : Piece → Loaded → Result Loaded LoadFault) → ((p : Piece) (x : Loaded) → Fine x → IfOk (next p x) Fine) → (p : Piece) (x : Loaded) → Fine x → IfOk (in_turn m t code next p x) Fine
+  turn_sound : (t code : ℕ) (next : PartRead → Loaded → Result Loaded LoadFault) → ((p : PartRead) (x : Loaded) → Fine x → IfOk (next p x) Fine) → (p : PartRead) (x : Loaded) → Fine x → IfOk (in_turn m t code next p x) Fine
   turn_sound t code next k p x h =
       cond_all Fine (comes code p) _ _ (go_on_all Fine Fine (section_added m t (next_section p) x) (next (past p)) (section_sound t (next_section p) x h) (λ y f. k (past p) y f)) (k p x h)
 
-  end_sound : (p : Piece) (x : Loaded) → Fine x → IfOk (at_end p x) Fine
+  end_sound : (p : PartRead) (x : Loaded) → Fine x → IfOk (at_end p x) Fine
   unfolding at_end
   end_sound p x h = cond_all Fine (eqb (length p.bytes) 0) _ _ h (cond_all Fine (ltb (length p.bytes) 2) _ _ tt tt)
 
-  rows_sound : (t : ℕ) (p : Piece) (x : Loaded) → Fine x → IfOk (from_rows m t p x) Fine
+  rows_sound : (t : ℕ) (p : PartRead) (x : Loaded) → Fine x → IfOk (from_rows m t p x) Fine
   unfolding from_rows from_lines from_note
   rows_sound t = turn_sound t rows_code (from_lines m t) (turn_sound t lines_code (from_note m t) (turn_sound t note_code at_end end_sound))
 

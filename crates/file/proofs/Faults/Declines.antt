@@ -13,10 +13,10 @@ use Rattle.file.specs.declared.reader.Stage.TheVariants as stage
 use Rattle.file.specs.declared.refusal.FileRefusal.TheVariants.{CutShort}
 use Rattle.file.specs.declared.refusal.LoadFault.{LoadFault}
 use Rattle.file.specs.Fields.{word2, head_code, head_count}
-use Rattle.file.specs.Parts.{Piece, fault_at}
+use Rattle.file.specs.Parts.{PartRead, fault_at}
 use Rattle.file.specs.Sections.{rows_code, lines_code, note_code, next_section, past}
 use Rattle.file.specs.Readers.{may_come}
-use Rattle.file.specs.Records.{go_on, row_record, line_record, record_next, records}
+use Rattle.file.specs.Records.{go_on, row_record, line_record, record_next, records_added}
 use Rattle.file.specs.Load.{Loaded, loaded_as, with_content, section_added, at_end, from_note, from_lines, from_rows}
 use Rattle.file.specs.Layout.{Description, in_bytes, head_word, row_word, line_word, row_bytes, line_bytes, one_byte, section_begun, section_written, header_written, written, Byte, KeepsLimits, content_of}
 use Rattle.file.specs.Declined.{at_head, at_row, at_line, at_note, before, may_follow, row_part_fault, line_part_fault, Declined}
@@ -32,11 +32,11 @@ use Rattle.file.proofs.Faults.Rules.{refused_with, row_rules, line_rules, head_s
 use Rattle.file.proofs.Faults.Sofar.{described, keeps_rows, keeps_lines, keeps_note, sections_on, written_on, note_begun_on, place_of, rows_added, lines_added}
 
 -- no section of that code comes next
-abbrev NotNext : ℕ → Piece → Type 0
+abbrev NotNext : ℕ → PartRead → Type 0
 NotNext code p = (length p.bytes < 2) ⊎ (head_code p.bytes ≡ code → ⊥)
 
 -- The file is described as far as p, with the content that x has.
-pub record Reached (m : Meaning) (bs : List ℕ) (d : Description) (rows : Option (List Row)) (lines : Option (List Line)) (note : Option (List ℕ)) (p : Piece) (x : Loaded) : Type 0 where
+pub record Reached (m : Meaning) (bs : List ℕ) (d : Description) (rows : Option (List Row)) (lines : Option (List Line)) (note : Option (List ℕ)) (p : PartRead) (x : Loaded) : Type 0 where
   pub keeps : KeepsLimits m (described d rows lines note)
   pub laid : header_written d ++ sections_on rows lines note p.bytes ≡ bs
   pub ends : p.place + length p.bytes ≡ length bs
@@ -44,7 +44,7 @@ pub record Reached (m : Meaning) (bs : List ℕ) (d : Description) (rows : Optio
   pub bytes : AllByRecursion Byte p.bytes
 
 -- what may follow these sections is what may come at that stage
-pub Passed : Stage → Option (List Row) → Option (List Line) → Option (List ℕ) → Piece → Type 0
+pub Passed : Stage → Option (List Row) → Option (List Line) → Option (List ℕ) → PartRead → Type 0
 Passed s rows lines note p = 2 ≤ length p.bytes → may_follow rows lines note (head_code p.bytes) ≡ true → may_come s (head_code p.bytes) ≡ true
 
 not_true : (b : Bool) → (b ≡ true → ⊥) → b ≡ false
@@ -56,11 +56,11 @@ or_right true b h e = absurd (h refl)
 or_right false b h e = e
 
 -- a code that does not come next
-other_code : (code : ℕ) (p : Piece) → NotNext code p → 2 ≤ length p.bytes → eqb (head_code p.bytes) code ≡ true → ⊥
+other_code : (code : ℕ) (p : PartRead) → NotNext code p → 2 ≤ length p.bytes → eqb (head_code p.bytes) code ≡ true → ⊥
 other_code code p (inl short) long e = omega arith
 other_code code p (inr other) long e = other (eqb-true (head_code p.bytes) code e)
 
-module _ (rows : Option (List Row)) (lines : Option (List Line)) (note : Option (List ℕ)) (p : Piece) where
+module _ (rows : Option (List Row)) (lines : Option (List Line)) (note : Option (List ℕ)) (p : PartRead) where
   passed_rows : NotNext 1 p → Passed stage.Rows rows lines note p → Passed stage.Lines rows lines note p
   unfolding Passed
   passed_rows other h long e = or_right (eqb (head_code p.bytes) 1) _ (other_code 1 p other long) (h long e)
@@ -75,7 +75,7 @@ module _ (rows : Option (List Row)) (lines : Option (List Line)) (note : Option 
 
 module _ (m : Meaning) (bs : List ℕ) (d : Description) where
   -- no section may come
-  head_declined : (rows : Option (List Row)) (lines : Option (List Line)) (note : Option (List ℕ)) (p : Piece) (x : Loaded) (f : LoadFault) → Reached m bs d rows lines note p x → Passed stage.End rows lines note p → at_end p x ≡ Err f → Declined m bs f
+  head_declined : (rows : Option (List Row)) (lines : Option (List Line)) (note : Option (List ℕ)) (p : PartRead) (x : Loaded) (f : LoadFault) → Reached m bs d rows lines note p x → Passed stage.End rows lines note p → at_end p x ≡ Err f → Declined m bs f
   unfolding Passed
   head_declined rows lines note p x f r passed h =
       let whole = described d rows lines note in
@@ -92,7 +92,7 @@ module _ (m : Meaning) (bs : List ℕ) (d : Description) where
 
   module _ (rows : Option (List Row)) (lines : Option (List Line)) where
     -- the note is cut short
-    note_cut : (p : Piece) (x : Loaded) (f : LoadFault) → Reached m bs d rows lines None p x → 2 ≤ length p.bytes → head_code p.bytes ≡ note_code → length (drop 2 p.bytes) < head_count p.bytes → go_on (section_added m d.trust (next_section p) x) (at_end (past p)) ≡ Err f → Declined m bs f
+    note_cut : (p : PartRead) (x : Loaded) (f : LoadFault) → Reached m bs d rows lines None p x → 2 ≤ length p.bytes → head_code p.bytes ≡ note_code → length (drop 2 p.bytes) < head_count p.bytes → go_on (section_added m d.trust (next_section p) x) (at_end (past p)) ≡ Err f → Declined m bs f
     note_cut p x f r long is short h =
         let n = head_count p.bytes in
         let rest = drop 2 p.bytes in
@@ -116,7 +116,7 @@ module _ (m : Meaning) (bs : List ℕ) (d : Description) where
         }
 
     -- the note is whole, and something follows it
-    note_whole : (p : Piece) (x : Loaded) (f : LoadFault) → Reached m bs d rows lines None p x → 2 ≤ length p.bytes → head_code p.bytes ≡ note_code → head_count p.bytes ≤ length (drop 2 p.bytes) → go_on (section_added m d.trust (next_section p) x) (at_end (past p)) ≡ Err f → Declined m bs f
+    note_whole : (p : PartRead) (x : Loaded) (f : LoadFault) → Reached m bs d rows lines None p x → 2 ≤ length p.bytes → head_code p.bytes ≡ note_code → head_count p.bytes ≤ length (drop 2 p.bytes) → go_on (section_added m d.trust (next_section p) x) (at_end (past p)) ≡ Err f → Declined m bs f
     unfolding Passed
     note_whole p x f r long is whole h =
         let n = head_count p.bytes in
@@ -141,7 +141,7 @@ module _ (m : Meaning) (bs : List ℕ) (d : Description) where
         (λ l e. absurd (true≢false (sym e)))
         (sym (ap (λ (o : Result Loaded LoadFault). go_on o (at_end (past p))) added) ∙ h)
 
-    note_stops : (p : Piece) (x : Loaded) (f : LoadFault) → Reached m bs d rows lines None p x → Passed stage.Note rows lines None p → from_note m d.trust p x ≡ Err f → Declined m bs f
+    note_stops : (p : PartRead) (x : Loaded) (f : LoadFault) → Reached m bs d rows lines None p x → Passed stage.Note rows lines None p → from_note m d.trust p x ≡ Err f → Declined m bs f
     note_stops p x f r passed h =
         elim (next_or_not note_code p.bytes) [
           | inl next ↦ elim (cases_lt (length (drop 2 p.bytes)) (head_count p.bytes)) [
@@ -152,7 +152,7 @@ module _ (m : Meaning) (bs : List ℕ) (d : Description) where
         ]
 
   -- lines come next, and stop among themselves
-  lines_cut : (rows : Option (List Row)) (p : Piece) (x : Loaded) (f : LoadFault) → Reached m bs d rows None None p x → 2 ≤ length p.bytes → head_code p.bytes ≡ lines_code → records (line_record m d.trust) (head_count p.bytes) (drop 2 p.bytes) (p.place + 2) (content_of m (described d rows None None)) ≡ Err f → Declined m bs f
+  lines_cut : (rows : Option (List Row)) (p : PartRead) (x : Loaded) (f : LoadFault) → Reached m bs d rows None None p x → 2 ≤ length p.bytes → head_code p.bytes ≡ lines_code → records_added (line_record m d.trust) (head_count p.bytes) (drop 2 p.bytes) (p.place + 2) (content_of m (described d rows None None)) ≡ Err f → Declined m bs f
   lines_cut rows p x f r long is e =
       let n = head_count p.bytes in
       let c = content_of m (described d rows None None) in
@@ -179,7 +179,7 @@ module _ (m : Meaning) (bs : List ℕ) (d : Description) where
       }
 
   -- lines are whole, and something behind them is refused
-  lines_whole : (rows : Option (List Row)) (p : Piece) (x : Loaded) (f : LoadFault) (c : Content) → Reached m bs d rows None None p x → 2 ≤ length p.bytes → head_code p.bytes ≡ lines_code → records (line_record m d.trust) (head_count p.bytes) (drop 2 p.bytes) (p.place + 2) (content_of m (described d rows None None)) ≡ Ok c → from_note m d.trust (past p) (loaded_as c x.note) ≡ Err f → Declined m bs f
+  lines_whole : (rows : Option (List Row)) (p : PartRead) (x : Loaded) (f : LoadFault) (c : Content) → Reached m bs d rows None None p x → 2 ≤ length p.bytes → head_code p.bytes ≡ lines_code → records_added (line_record m d.trust) (head_count p.bytes) (drop 2 p.bytes) (p.place + 2) (content_of m (described d rows None None)) ≡ Ok c → from_note m d.trust (past p) (loaded_as c x.note) ≡ Err f → Declined m bs f
   unfolding Passed
   lines_whole rows p x f c r long is e h =
       let n = head_count p.bytes in
@@ -200,11 +200,11 @@ module _ (m : Meaning) (bs : List ℕ) (d : Description) where
       (λ l k. k)
       h
 
-  lines_by : (rows : Option (List Row)) (p : Piece) (x : Loaded) (f : LoadFault) (o : Result Content LoadFault) → Reached m bs d rows None None p x → 2 ≤ length p.bytes → head_code p.bytes ≡ lines_code → records (line_record m d.trust) (head_count p.bytes) (drop 2 p.bytes) (p.place + 2) (content_of m (described d rows None None)) ≡ o → go_on (go_on o (with_content x)) (from_note m d.trust (past p)) ≡ Err f → Declined m bs f
+  lines_by : (rows : Option (List Row)) (p : PartRead) (x : Loaded) (f : LoadFault) (o : Result Content LoadFault) → Reached m bs d rows None None p x → 2 ≤ length p.bytes → head_code p.bytes ≡ lines_code → records_added (line_record m d.trust) (head_count p.bytes) (drop 2 p.bytes) (p.place + 2) (content_of m (described d rows None None)) ≡ o → go_on (go_on o (with_content x)) (from_note m d.trust (past p)) ≡ Err f → Declined m bs f
   lines_by rows p x f (Err g) r long is e h = let same : g ≡ f = cc in lines_cut rows p x f r long is (e ∙ ap (λ (z : LoadFault). Err z) same)
   lines_by rows p x f (Ok c) r long is e h = lines_whole rows p x f c r long is e h
 
-  lines_stops : (rows : Option (List Row)) (p : Piece) (x : Loaded) (f : LoadFault) → Reached m bs d rows None None p x → Passed stage.Lines rows None None p → from_lines m d.trust p x ≡ Err f → Declined m bs f
+  lines_stops : (rows : Option (List Row)) (p : PartRead) (x : Loaded) (f : LoadFault) → Reached m bs d rows None None p x → Passed stage.Lines rows None None p → from_lines m d.trust p x ≡ Err f → Declined m bs f
   lines_stops rows p x f r passed h =
       elim (next_or_not lines_code p.bytes) [
         | inl next ↦
@@ -214,7 +214,7 @@ module _ (m : Meaning) (bs : List ℕ) (d : Description) where
       ]
 
   -- the same of rows
-  rows_cut : (p : Piece) (x : Loaded) (f : LoadFault) → Reached m bs d None None None p x → 2 ≤ length p.bytes → head_code p.bytes ≡ rows_code → records (row_record m) (head_count p.bytes) (drop 2 p.bytes) (p.place + 2) (content_of m (described d None None None)) ≡ Err f → Declined m bs f
+  rows_cut : (p : PartRead) (x : Loaded) (f : LoadFault) → Reached m bs d None None None p x → 2 ≤ length p.bytes → head_code p.bytes ≡ rows_code → records_added (row_record m) (head_count p.bytes) (drop 2 p.bytes) (p.place + 2) (content_of m (described d None None None)) ≡ Err f → Declined m bs f
   rows_cut p x f r long is e =
       let n = head_count p.bytes in
       let c = content_of m (described d None None None) in
@@ -238,7 +238,7 @@ module _ (m : Meaning) (bs : List ℕ) (d : Description) where
         broken = broken ∙ ap (λ (z : LoadFault). Some z.refusal) (sym s.is);
       }
 
-  rows_whole : (p : Piece) (x : Loaded) (f : LoadFault) (c : Content) → Reached m bs d None None None p x → 2 ≤ length p.bytes → head_code p.bytes ≡ rows_code → records (row_record m) (head_count p.bytes) (drop 2 p.bytes) (p.place + 2) (content_of m (described d None None None)) ≡ Ok c → from_lines m d.trust (past p) (loaded_as c x.note) ≡ Err f → Declined m bs f
+  rows_whole : (p : PartRead) (x : Loaded) (f : LoadFault) (c : Content) → Reached m bs d None None None p x → 2 ≤ length p.bytes → head_code p.bytes ≡ rows_code → records_added (row_record m) (head_count p.bytes) (drop 2 p.bytes) (p.place + 2) (content_of m (described d None None None)) ≡ Ok c → from_lines m d.trust (past p) (loaded_as c x.note) ≡ Err f → Declined m bs f
   unfolding Passed
   rows_whole p x f c r long is e h =
       let n = head_count p.bytes in
@@ -259,11 +259,11 @@ module _ (m : Meaning) (bs : List ℕ) (d : Description) where
       (λ l k. k)
       h
 
-  rows_by : (p : Piece) (x : Loaded) (f : LoadFault) (o : Result Content LoadFault) → Reached m bs d None None None p x → 2 ≤ length p.bytes → head_code p.bytes ≡ rows_code → records (row_record m) (head_count p.bytes) (drop 2 p.bytes) (p.place + 2) (content_of m (described d None None None)) ≡ o → go_on (go_on o (with_content x)) (from_lines m d.trust (past p)) ≡ Err f → Declined m bs f
+  rows_by : (p : PartRead) (x : Loaded) (f : LoadFault) (o : Result Content LoadFault) → Reached m bs d None None None p x → 2 ≤ length p.bytes → head_code p.bytes ≡ rows_code → records_added (row_record m) (head_count p.bytes) (drop 2 p.bytes) (p.place + 2) (content_of m (described d None None None)) ≡ o → go_on (go_on o (with_content x)) (from_lines m d.trust (past p)) ≡ Err f → Declined m bs f
   rows_by p x f (Err g) r long is e h = let same : g ≡ f = cc in rows_cut p x f r long is (e ∙ ap (λ (z : LoadFault). Err z) same)
   rows_by p x f (Ok c) r long is e h = rows_whole p x f c r long is e h
 
-  pub rows_stops : (p : Piece) (x : Loaded) (f : LoadFault) → Reached m bs d None None None p x → from_rows m d.trust p x ≡ Err f → Declined m bs f
+  pub rows_stops : (p : PartRead) (x : Loaded) (f : LoadFault) → Reached m bs d None None None p x → from_rows m d.trust p x ≡ Err f → Declined m bs f
   unfolding Passed
   rows_stops p x f r h =
       elim (next_or_not rows_code p.bytes) [

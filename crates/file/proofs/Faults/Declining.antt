@@ -13,9 +13,9 @@ use Rattle.file.specs.declared.refusal.FileRefusal.{FileRefusal}
 use Rattle.file.specs.declared.refusal.FileRefusal.TheVariants.{CutShort}
 use Rattle.file.specs.declared.refusal.LoadFault.{LoadFault}
 use Rattle.file.specs.Fields.{word4, header_fields, head_code, head_count}
-use Rattle.file.specs.Parts.{Piece, fault_at}
+use Rattle.file.specs.Parts.{PartRead, fault_at}
 use Rattle.file.specs.Sections.{rows_code, lines_code, note_code, next_section, past}
-use Rattle.file.specs.Records.{go_on, at_place, row_record, line_record, record_next, records}
+use Rattle.file.specs.Records.{go_on, at_place, row_record, line_record, record_next, records_added}
 use Rattle.file.specs.Load.{Opened, opened, Loaded, loaded_as, with_content, section_added, at_end, from_note, from_lines, from_rows, after_header, no_note, loaded, note_answer, load_answer}
 use Rattle.file.specs.Layout.{Description, held_in, in_bytes, head_word, row_word, line_word, row_bytes, line_bytes, one_byte, section_begun, section_written, header_written, written, Byte, RowLimits, LineLimits, KeepsLimits, content_of}
 use Rattle.file.specs.Declined.{Due, at_header, at_head, at_row, at_line, at_note, before, Stands, header_fault, may_follow, head_fault, row_part_fault, line_part_fault, note_fault, part_fault, Declined, DeclinesExactly}
@@ -118,7 +118,7 @@ other_begins k code n rest small few other =
 
 module _ (m : Meaning) (d : Description) where
   -- what is left behind the sections that are described
-  go_rows : (rows : Option (List Row)) (p : Piece) (n : Piece) (rest : List ℕ) (after : ℕ) → length (held_in rows) ≤ 128 → AllByRecursion (RowLimits m d.modes) (held_in rows) → p.bytes ≡ section_written rows_code row_bytes rows ++ rest → p.place + length p.bytes ≡ after + length rest → (rows ≡ None → Other rows_code rest) → from_rows m d.trust p (loaded_as (content_of m (described d None None None)) n) ≡ from_lines m d.trust (record { bytes = rest; place = after }) (loaded_as (content_of m (described d rows None None)) n)
+  go_rows : (rows : Option (List Row)) (p : PartRead) (n : PartRead) (rest : List ℕ) (after : ℕ) → length (held_in rows) ≤ 128 → AllByRecursion (RowLimits m d.modes) (held_in rows) → p.bytes ≡ section_written rows_code row_bytes rows ++ rest → p.place + length p.bytes ≡ after + length rest → (rows ≡ None → Other rows_code rest) → from_rows m d.trust p (loaded_as (content_of m (described d None None None)) n) ≡ from_lines m d.trust (record { bytes = rest; place = after }) (loaded_as (content_of m (described d rows None None)) n)
   go_rows None p n rest after few keep laid ends other =
       let x = loaded_as (content_of m (described d None None None)) n in
       let e : p.place ≡ after = omega (arith, ap length laid) in
@@ -132,7 +132,7 @@ module _ (m : Meaning) (d : Description) where
       ∙ (ap (λ (o : Result Loaded LoadFault). go_on o (from_lines m d.trust (past p))) (adds_rows m d.trust p x rs rest (omega arith) keep a)
       ∙ (λ i. from_lines m d.trust (record { bytes = b i; place = e i }) (loaded_as (content_of m (described d (Some rs) None None)) n)))
 
-  go_lines : (rows : Option (List Row)) (lines : Option (List Line)) (p : Piece) (n : Piece) (rest : List ℕ) (after : ℕ) → length (held_in lines) ≤ 128 → AllByRecursion (LineLimits m d.moments d.trust) (held_in lines) → p.bytes ≡ section_written lines_code line_bytes lines ++ rest → p.place + length p.bytes ≡ after + length rest → (lines ≡ None → Other lines_code rest) → from_lines m d.trust p (loaded_as (content_of m (described d rows None None)) n) ≡ from_note m d.trust (record { bytes = rest; place = after }) (loaded_as (content_of m (described d rows lines None)) n)
+  go_lines : (rows : Option (List Row)) (lines : Option (List Line)) (p : PartRead) (n : PartRead) (rest : List ℕ) (after : ℕ) → length (held_in lines) ≤ 128 → AllByRecursion (LineLimits m d.moments d.trust) (held_in lines) → p.bytes ≡ section_written lines_code line_bytes lines ++ rest → p.place + length p.bytes ≡ after + length rest → (lines ≡ None → Other lines_code rest) → from_lines m d.trust p (loaded_as (content_of m (described d rows None None)) n) ≡ from_note m d.trust (record { bytes = rest; place = after }) (loaded_as (content_of m (described d rows lines None)) n)
   go_lines rows None p n rest after few keep laid ends other =
       let x = loaded_as (content_of m (described d rows None None)) n in
       let e : p.place ≡ after = omega (arith, ap length laid) in
@@ -146,13 +146,13 @@ module _ (m : Meaning) (d : Description) where
       ∙ (ap (λ (o : Result Loaded LoadFault). go_on o (from_note m d.trust (past p))) (adds_lines m d.trust p x ls rest (omega arith) keep a)
       ∙ (λ i. from_note m d.trust (record { bytes = b i; place = e i }) (loaded_as (content_of m (described d rows (Some ls) None)) n)))
 
-  go_note : (note : Option (List ℕ)) (c : Content) (p : Piece) (n : Piece) (rest : List ℕ) (after : ℕ) → length (held_in note) < 4096 → p.bytes ≡ section_written note_code one_byte note ++ rest → p.place + length p.bytes ≡ after + length rest → (note ≡ None → Other note_code rest) → (k : Piece) × (from_note m d.trust p (loaded_as c n) ≡ at_end (record { bytes = rest; place = after }) (loaded_as c k))
+  go_note : (note : Option (List ℕ)) (c : Content) (p : PartRead) (n : PartRead) (rest : List ℕ) (after : ℕ) → length (held_in note) < 4096 → p.bytes ≡ section_written note_code one_byte note ++ rest → p.place + length p.bytes ≡ after + length rest → (note ≡ None → Other note_code rest) → (k : PartRead) × (from_note m d.trust p (loaded_as c n) ≡ at_end (record { bytes = rest; place = after }) (loaded_as c k))
   go_note None c p n rest after few laid ends other =
       let e : p.place ≡ after = omega (arith, ap length laid) in
       (n, passes_note m d.trust p (loaded_as c n) (subst (Other note_code) (sym laid) (other refl)) ∙ (λ i. at_end (record { bytes = laid i; place = e i }) (loaded_as c n)))
   go_note (Some bs) c p n rest after few laid ends other =
       let x = loaded_as c n in
-      let k : Piece = record { bytes = bs; place = p.place + 2 } in
+      let k : PartRead = record { bytes = bs; place = p.place + 2 } in
       let split = laid ∙ ap (λ (ys : List ℕ). in_bytes 2 (head_word note_code (length bs)) ++ (ys ++ rest)) (bytes_written bs) in
       let a = head_at p.bytes note_code (length bs) (length bs) bs rest (omega arith) few refl split in
       let b = note_rest m d.trust p x (length bs) bs rest a in
@@ -170,18 +170,18 @@ note_short false r h = absurd cc
 
 module _ (m : Meaning) (d : Description) (k : KeepsLimits m d) where
   -- behind the header
-  start : (tail : List ℕ) → (n : Piece) × (loaded m (header_written d ++ tail) ≡ from_rows m d.trust (record { bytes = tail; place = 4 }) (loaded_as (content_of m (described d None None None)) n))
+  start : (tail : List ℕ) → (n : PartRead) × (loaded m (header_written d ++ tail) ≡ from_rows m d.trust (record { bytes = tail; place = 4 }) (loaded_as (content_of m (described d None None None)) n))
   start tail = (no_note (header_written d ++ tail), header_accepted m d tail k)
 
   -- behind the rows
-  past_rows : (tail : List ℕ) → (d.rows ≡ None → Other rows_code tail) → (n : Piece) × (loaded m (header_written d ++ (section_written rows_code row_bytes d.rows ++ tail)) ≡ from_lines m d.trust (record { bytes = tail; place = 4 + length (section_written rows_code row_bytes d.rows) }) (loaded_as (content_of m (described d d.rows None None)) n))
+  past_rows : (tail : List ℕ) → (d.rows ≡ None → Other rows_code tail) → (n : PartRead) × (loaded m (header_written d ++ (section_written rows_code row_bytes d.rows ++ tail)) ≡ from_lines m d.trust (record { bytes = tail; place = 4 + length (section_written rows_code row_bytes d.rows) }) (loaded_as (content_of m (described d d.rows None None)) n))
   past_rows tail other =
       let front = section_written rows_code row_bytes d.rows in
       let s = start (front ++ tail) in
       (s.0, s.1 ∙ go_rows m d d.rows (record { bytes = front ++ tail; place = 4 }) s.0 tail (4 + length front) k.few_rows k.rows_keep refl (omega (arith, length-append front tail)) other)
 
   -- behind the lines
-  past_lines : (tail : List ℕ) → (d.rows ≡ None → Other rows_code (section_written lines_code line_bytes d.lines ++ tail)) → (d.lines ≡ None → Other lines_code tail) → (n : Piece) × (loaded m (header_written d ++ (section_written rows_code row_bytes d.rows ++ (section_written lines_code line_bytes d.lines ++ tail))) ≡ from_note m d.trust (record { bytes = tail; place = 4 + length (section_written rows_code row_bytes d.rows) + length (section_written lines_code line_bytes d.lines) }) (loaded_as (content_of m (described d d.rows d.lines None)) n))
+  past_lines : (tail : List ℕ) → (d.rows ≡ None → Other rows_code (section_written lines_code line_bytes d.lines ++ tail)) → (d.lines ≡ None → Other lines_code tail) → (n : PartRead) × (loaded m (header_written d ++ (section_written rows_code row_bytes d.rows ++ (section_written lines_code line_bytes d.lines ++ tail))) ≡ from_note m d.trust (record { bytes = tail; place = 4 + length (section_written rows_code row_bytes d.rows) + length (section_written lines_code line_bytes d.lines) }) (loaded_as (content_of m (described d d.rows d.lines None)) n))
   past_lines tail other_rows other_lines =
       let front = section_written lines_code line_bytes d.lines in
       let place = 4 + length (section_written rows_code row_bytes d.rows) in
@@ -220,7 +220,7 @@ module _ (m : Meaning) (d : Description) (k : KeepsLimits m d) where
       let s = past_lines tail
       (λ q. not_next 1 lines_code line_bytes d.lines (lines ++ tail) tail (omega arith) (λ e. omega arith) (omega (arith, k.few_lines)) refl (λ l. other_begins 1 note_code n rest (omega arith) few (λ e. omega arith)))
       (λ l. other_begins 2 note_code n rest (omega arith) few (λ e. omega arith)) in
-      let p : Piece = record { bytes = tail; place = place } in
+      let p : PartRead = record { bytes = tail; place = place } in
       let x = loaded_as (content_of m (described d d.rows d.lines None)) s.0 in
       let a = begins tail note_code n rest (omega arith) few refl in
       let short = ltb-true (length rest) n t.0 in
@@ -243,7 +243,7 @@ module _ (m : Meaning) (d : Description) (k : KeepsLimits m d) where
       let tail = in_bytes 2 (head_word lines_code n) ++ body in
       let place = 4 + length rows in
       let s = past_rows tail (λ q. other_begins 1 lines_code n body (omega arith) few (λ e. omega arith)) in
-      let p : Piece = record { bytes = tail; place = place } in
+      let p : PartRead = record { bytes = tail; place = place } in
       let c = content_of m (described d d.rows None None) in
       let x = loaded_as c s.0 in
       let a = begins tail lines_code n body (omega arith) few refl in
@@ -251,10 +251,10 @@ module _ (m : Meaning) (d : Description) (k : KeepsLimits m d) where
       let run = limited_lines m d.trust ls c (omega (arith, k.few_lines)) k.lines_keep in
       let left = n - length ls in
       let next : record_next (line_record m d.trust) rest (content_of m d) ≡ Err r = line_refused m d.trust (content_of m d) rest r h in
-      let stop : records (line_record m d.trust) n body (place + 2) c ≡ Err (fault_at r after) =
+      let stop : records_added (line_record m d.trust) n body (place + 2) c ≡ Err (fault_at r after) =
       records_past (line_record m d.trust) line_word LineFits (TakesLine m d.trust) (line_put m d.trust) line_word_fits (line_forth m d.trust) (line_back m d.trust) ls n left rest (place + 2) after c (with_lines m d.trust c ls) (omega arith) refl run
       ∙ records_stop (line_record m d.trust) left (left - 1) rest after (content_of m d) r (omega arith) next in
-      let counted : records (line_record m d.trust) (head_count tail) body (place + 2) c ≡ Err (fault_at r after) = ap (λ (j : ℕ). records (line_record m d.trust) j body (place + 2) c) a.its_count ∙ stop in
+      let counted : records_added (line_record m d.trust) (head_count tail) body (place + 2) c ≡ Err (fault_at r after) = ap (λ (j : ℕ). records_added (line_record m d.trust) j body (place + 2) c) a.its_count ∙ stop in
       let front = header_written d ++ (rows ++ begun) in
       let end : after ≡ length front = omega (arith, length-append rows begun, each_length line_bytes (λ l. refl) ls) in
       ap (λ (ys : List ℕ). loaded m (header_written d ++ ys)) (append_assoc rows begun rest)
@@ -270,7 +270,7 @@ module _ (m : Meaning) (d : Description) (k : KeepsLimits m d) where
       let body = flat_map row_bytes rs ++ rest in
       let tail = in_bytes 2 (head_word rows_code n) ++ body in
       let s = start tail in
-      let p : Piece = record { bytes = tail; place = 4 } in
+      let p : PartRead = record { bytes = tail; place = 4 } in
       let c = content_of m (described d None None None) in
       let x = loaded_as c s.0 in
       let a = begins tail rows_code n body (omega arith) few refl in
@@ -279,10 +279,10 @@ module _ (m : Meaning) (d : Description) (k : KeepsLimits m d) where
       let left = n - length rs in
       let same : content_of m d ≡ with_rows c rs = ap (λ (o : Option (List Line)). content_of m (described d d.rows o None)) none in
       let next : record_next (row_record m) rest (with_rows c rs) ≡ Err r = ap (λ (z : Content). record_next (row_record m) rest z) (sym same) ∙ row_refused m (content_of m d) rest r h in
-      let stop : records (row_record m) n body 6 c ≡ Err (fault_at r after) =
+      let stop : records_added (row_record m) n body 6 c ≡ Err (fault_at r after) =
       records_past (row_record m) row_word RowFits (TakesRow m) (row_after m) row_word_fits (row_forth m d.trust) (row_back m d.trust) rs n left rest 6 after c (with_rows c rs) (omega arith) refl run
       ∙ records_stop (row_record m) left (left - 1) rest after (with_rows c rs) r (omega arith) next in
-      let counted : records (row_record m) (head_count tail) body 6 c ≡ Err (fault_at r after) = ap (λ (j : ℕ). records (row_record m) j body 6 c) a.its_count ∙ stop in
+      let counted : records_added (row_record m) (head_count tail) body 6 c ≡ Err (fault_at r after) = ap (λ (j : ℕ). records_added (row_record m) j body 6 c) a.its_count ∙ stop in
       let front = header_written d ++ begun in
       let end : after ≡ length front = omega (arith, each_length row_bytes (λ l. refl) rs) in
       s.1 ∙ (takes_rows m d.trust p x a.long a.its_code
@@ -308,7 +308,7 @@ module _ (m : Meaning) where
   answered_err (Ok y) f h = absurd cc
   answered_err (Err g) f h = cc
 
-  pub declines_exactly : (bs : List ℕ) (answer : Result Piece LoadFault) → ((i : ℕ) → get_or bs i 0 < 256) → answer ≡ load_answer m bs → DeclinesExactly m bs answer
+  pub declines_exactly : (bs : List ℕ) (answer : Result PartRead LoadFault) → ((i : ℕ) → get_or bs i 0 < 256) → answer ≡ load_answer m bs → DeclinesExactly m bs answer
   declines_exactly bs answer e h f = (
     λ k. declined_as m bs (each_byte bs e) f (answered_err (loaded m bs) f (sym h ∙ k)),
     λ k. h ∙ ap note_answer (refused_as bs f k),

@@ -10,7 +10,7 @@ use Rattle.file.specs.declared.refusal.FileRefusal.{FileRefusal}
 use Rattle.file.specs.declared.refusal.FileRefusal.TheVariants.{CutShort, WrongLetter, NotZero, WrongTrust, WrongSection}
 use Rattle.file.specs.declared.refusal.LoadFault.{LoadFault}
 use Rattle.file.specs.Fields.{field, word4, word8, header_fields, head_code, row_fields, line_fields}
-use Rattle.file.specs.Parts.{Piece, fault_at}
+use Rattle.file.specs.Parts.{PartRead, fault_at}
 use Rattle.file.specs.Records.{go_on, called, row_added, line_added, trusted_line, row_record, line_record, record_next}
 use Rattle.file.specs.Load.{Loaded, Opened, opened, sized, at_end}
 use Rattle.file.specs.Layout.{Description}
@@ -105,7 +105,7 @@ refused_at_end false true may place x r h = let e : CutShort ≡ r = cc in (ap (
 refused_at_end false false true place x r h = absurd cc
 refused_at_end false false false place x r h = let e : WrongSection ≡ r = cc in (ap (λ (z : FileRefusal). Err (fault_at z place)) e, inr refl)
 
-module _ (d : Description) (p : Piece) (x : Loaded) where
+module _ (d : Description) (p : PartRead) (x : Loaded) where
   abbrev follows : Bool
   follows = may_follow d.rows d.lines d.note (head_code p.bytes)
 

@@ -7,9 +7,9 @@ use Rattle.board.specs.declared.row.Line.{Line}
 use Rattle.board.specs.Content.{Content}
 use Rattle.file.specs.declared.refusal.LoadFault.{LoadFault}
 use Rattle.file.specs.Fields.{head_code, head_count}
-use Rattle.file.specs.Parts.{Piece}
+use Rattle.file.specs.Parts.{PartRead}
 use Rattle.file.specs.Sections.{rows_code, lines_code, note_code, next_section}
-use Rattle.file.specs.Records.{go_on, row_record, line_record, records}
+use Rattle.file.specs.Records.{go_on, row_record, line_record, records_added}
 use Rattle.file.specs.Load.{Loaded, with_content, section_added}
 use Rattle.file.specs.Layout.{Description, row_bytes, line_bytes, one_byte, section_written, header_written, written, Byte, RowLimits, LineLimits, KeepsLimits}
 use Rattle.file.proofs.Faults.Stops.{records_front}
@@ -104,13 +104,13 @@ pub place_of : (front rest bs : List ℕ) (place : ℕ) → front ++ rest ≡ bs
 place_of front rest bs place laid ends = omega (arith, length-append front rest, ap length laid)
 
 -- what a section of rows or of lines makes of a content
-module _ (m : Meaning) (trust : ℕ) (p : Piece) (x : Loaded) (c : Content) (same : x.content ≡ c) where
-  pub rows_added : head_code p.bytes ≡ rows_code → section_added m trust (next_section p) x ≡ go_on (records (row_record m) (head_count p.bytes) (drop 2 p.bytes) (p.place + 2) c) (with_content x)
+module _ (m : Meaning) (trust : ℕ) (p : PartRead) (x : Loaded) (c : Content) (same : x.content ≡ c) where
+  pub rows_added : head_code p.bytes ≡ rows_code → section_added m trust (next_section p) x ≡ go_on (records_added (row_record m) (head_count p.bytes) (drop 2 p.bytes) (p.place + 2) c) (with_content x)
   rows_added h =
       rows_section m trust p x h
-      ∙ ap (λ (o : Result Content LoadFault). go_on o (with_content x)) (records_front (row_record m) (head_count p.bytes) (8 * head_count p.bytes) (drop 2 p.bytes) (p.place + 2) x.content refl ∙ ap (records (row_record m) (head_count p.bytes) (drop 2 p.bytes) (p.place + 2)) same)
+      ∙ ap (λ (o : Result Content LoadFault). go_on o (with_content x)) (records_front (row_record m) (head_count p.bytes) (8 * head_count p.bytes) (drop 2 p.bytes) (p.place + 2) x.content refl ∙ ap (records_added (row_record m) (head_count p.bytes) (drop 2 p.bytes) (p.place + 2)) same)
 
-  pub lines_added : head_code p.bytes ≡ lines_code → section_added m trust (next_section p) x ≡ go_on (records (line_record m trust) (head_count p.bytes) (drop 2 p.bytes) (p.place + 2) c) (with_content x)
+  pub lines_added : head_code p.bytes ≡ lines_code → section_added m trust (next_section p) x ≡ go_on (records_added (line_record m trust) (head_count p.bytes) (drop 2 p.bytes) (p.place + 2) c) (with_content x)
   lines_added h =
       lines_section m trust p x h
-      ∙ ap (λ (o : Result Content LoadFault). go_on o (with_content x)) (records_front (line_record m trust) (head_count p.bytes) (8 * head_count p.bytes) (drop 2 p.bytes) (p.place + 2) x.content refl ∙ ap (records (line_record m trust) (head_count p.bytes) (drop 2 p.bytes) (p.place + 2)) same)
+      ∙ ap (λ (o : Result Content LoadFault). go_on o (with_content x)) (records_front (line_record m trust) (head_count p.bytes) (8 * head_count p.bytes) (drop 2 p.bytes) (p.place + 2) x.content refl ∙ ap (records_added (line_record m trust) (head_count p.bytes) (drop 2 p.bytes) (p.place + 2)) same)

@@ -9,7 +9,7 @@ use Rattle.file.specs.declared.refusal.FileRefusal.TheVariants.{CutShort}
 use Rattle.file.specs.declared.refusal.LoadFault.{LoadFault}
 use Rattle.file.specs.Fields.{word8}
 use Rattle.file.specs.Parts.{fault_at}
-use Rattle.file.specs.Records.{go_on, at_place, record_next, records}
+use Rattle.file.specs.Records.{go_on, at_place, record_next, records_added}
 use Rattle.file.specs.Layout.{in_bytes, Byte}
 use Rattle.file.proofs.Loads.Bytes.{word8_bytes, bytes_word8, word8_fits, each_drop}
 use Rattle.file.proofs.Loads.Steps.{records_more}
@@ -30,14 +30,14 @@ module _ (add : Content → ℕ → Result Content FileRefusal) where
             rw (l, l', w)
       ]
 
-  pub records_front : (n k : ℕ) (bs : List ℕ) (place : ℕ) (c : Content) → k ≡ 8 * n → records add n (take k bs) place c ≡ records add n bs place c
-  unfolding records
+  pub records_front : (n k : ℕ) (bs : List ℕ) (place : ℕ) (c : Content) → k ≡ 8 * n → records_added add n (take k bs) place c ≡ records_added add n bs place c
+  unfolding records_added
   records_front zero k bs place c h = refl
   records_front (suc n) k bs place c h =
       let m : k ≡ 8 + 8 * n = omega arith in
       let d : drop 8 (take k bs) ≡ take (8 * n) (drop 8 bs) = ap (λ (j : ℕ). drop 8 (take j bs)) m ∙ drop-take 8 (8 * n) bs in
       let o = front_next k bs c (omega arith) in
-      ap (λ (xs : List ℕ). go_on (at_place (record_next add (take k bs) c) place) (records add n xs (place + 8))) d
+      ap (λ (xs : List ℕ). go_on (at_place (record_next add (take k bs) c) place) (records_added add n xs (place + 8))) d
       ∙ (λ i. go_on (at_place (o i) place) (λ e. records_front n (8 * n) (drop 8 bs) (place + 8) e refl i))
 
 -- what was read before an answer
@@ -76,7 +76,7 @@ module _ {A : Type 0} (add : Content → ℕ → Result Content FileRefusal) (wo
         is = later.is ∙ ap (λ (j : ℕ). fault_at later.refusal j) at;
       }
 
-  stops_by : (n : ℕ) (bs : List ℕ) (place : ℕ) (c : Content) (f : LoadFault) (o : Result Content FileRefusal) → AllByRecursion Byte bs → record_next add bs c ≡ o → go_on (at_place o place) (records add n (drop 8 bs) (place + 8)) ≡ Err f → ((d : Content) → records add n (drop 8 bs) (place + 8) d ≡ Err f → Stopped add word_of Fits Taken put n (drop 8 bs) (place + 8) d f) → Stopped add word_of Fits Taken put (suc n) bs place c f
+  stops_by : (n : ℕ) (bs : List ℕ) (place : ℕ) (c : Content) (f : LoadFault) (o : Result Content FileRefusal) → AllByRecursion Byte bs → record_next add bs c ≡ o → go_on (at_place o place) (records_added add n (drop 8 bs) (place + 8)) ≡ Err f → ((d : Content) → records_added add n (drop 8 bs) (place + 8) d ≡ Err f → Stopped add word_of Fits Taken put n (drop 8 bs) (place + 8) d f) → Stopped add word_of Fits Taken put (suc n) bs place c f
   stops_by n bs place c f (Err r) e is h later =
       let at : place ≡ place + 8 * 0 = omega arith in
       let same : f ≡ fault_at r place = cc in
@@ -85,18 +85,18 @@ module _ {A : Type 0} (add : Content → ℕ → Result Content FileRefusal) (wo
       let t = next_was (ltb (length bs) 8) CutShort (add c (word8 bs)) d is in
       stops_later n bs place c d f e (ltb-false (length bs) 8 t.0) (back c d (word8 bs) (word8_fits bs e) t.1) (later d h)
 
-  pub stops : (n : ℕ) (bs : List ℕ) (place : ℕ) (c : Content) (f : LoadFault) → AllByRecursion Byte bs → records add n bs place c ≡ Err f → Stopped add word_of Fits Taken put n bs place c f
-  unfolding records
+  pub stops : (n : ℕ) (bs : List ℕ) (place : ℕ) (c : Content) (f : LoadFault) → AllByRecursion Byte bs → records_added add n bs place c ≡ Err f → Stopped add word_of Fits Taken put n bs place c f
+  unfolding records_added
   stops zero bs place c f e h = absurd cc
   stops (suc n) bs place c f e h =
       stops_by n bs place c f (record_next add bs c) e refl h (λ d k. stops n (drop 8 bs) (place + 8) d f (each_drop 8 bs e) k)
 
   -- what is left once the records of a list are put on the board
-  pub records_past : (xs : List A) (n k : ℕ) (rest : List ℕ) (place after : ℕ) (c d : Content) → n ≡ length xs + k → after ≡ place + 8 * length xs → Run Fits Taken put c xs d → records add n (flat_map (λ x. in_bytes 8 (word_of x)) xs ++ rest) place c ≡ records add k rest after d
+  pub records_past : (xs : List A) (n k : ℕ) (rest : List ℕ) (place after : ℕ) (c d : Content) → n ≡ length xs + k → after ≡ place + 8 * length xs → Run Fits Taken put c xs d → records_added add n (flat_map (λ x. in_bytes 8 (word_of x)) xs ++ rest) place c ≡ records_added add k rest after d
   records_past [] n k rest place after c d count at r =
       let e : n ≡ k = omega arith in
       let p : place ≡ after = omega arith in
-      λ i. records add (e i) rest (p i) (sym r i)
+      λ i. records_added add (e i) rest (p i) (sym r i)
   records_past (x ∷ xs) n k rest place after c d count at (fits, taken, r) =
       let tail = flat_map (λ y. in_bytes 8 (word_of y)) xs ++ rest in
       let w = word8_bytes (word_of x) tail (small x fits) in
@@ -105,7 +105,7 @@ module _ {A : Type 0} (add : Content → ℕ → Result Content FileRefusal) (wo
       ∙ records_past xs (length xs + k) k rest (place + 8) after (put c x) d refl (omega arith) r
 
 -- the next record is refused
-pub records_stop : (add : Content → ℕ → Result Content FileRefusal) (k j : ℕ) (rest : List ℕ) (place : ℕ) (d : Content) (r : FileRefusal) → k ≡ suc j → record_next add rest d ≡ Err r → records add k rest place d ≡ Err (fault_at r place)
-unfolding records
+pub records_stop : (add : Content → ℕ → Result Content FileRefusal) (k j : ℕ) (rest : List ℕ) (place : ℕ) (d : Content) (r : FileRefusal) → k ≡ suc j → record_next add rest d ≡ Err r → records_added add k rest place d ≡ Err (fault_at r place)
+unfolding records_added
 records_stop add zero j rest place d r e h = absurd (omega arith)
-records_stop add (suc k) j rest place d r e h = ap (λ (o : Result Content FileRefusal). go_on (at_place o place) (records add k (drop 8 rest) (place + 8))) h
+records_stop add (suc k) j rest place d r e h = ap (λ (o : Result Content FileRefusal). go_on (at_place o place) (records_added add k (drop 8 rest) (place + 8))) h

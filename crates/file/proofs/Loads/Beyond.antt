@@ -10,9 +10,9 @@ use Rattle.file.specs.declared.refusal.FileRefusal.{FileRefusal}
 use Rattle.file.specs.declared.refusal.FileRefusal.TheVariants.{WrongSection}
 use Rattle.file.specs.declared.refusal.LoadFault.{LoadFault}
 use Rattle.file.specs.Fields.{field, word2, word4, word8, head_code, head_count, row_read, line_read}
-use Rattle.file.specs.Parts.{Piece, fault_at}
+use Rattle.file.specs.Parts.{PartRead, fault_at}
 use Rattle.file.specs.Sections.{rows_code, lines_code, note_code, head_size, next_section, past}
-use Rattle.file.specs.Records.{go_on, at_place, row_added, line_added, trusted_line, row_record, line_record, records}
+use Rattle.file.specs.Records.{go_on, at_place, row_added, line_added, trusted_line, row_record, line_record, records_added}
 use Rattle.file.specs.Load.{Loaded, loaded_as, with_content, section_added, at_end, from_note, from_lines, from_rows, Opened, opened, after_header, no_note, loaded, load_answer, load_after, note_answer, content_left}
 use Rattle.file.proofs.Loads.Turns.{passes_note, passes_lines, passes_rows, takes_note, takes_lines, takes_rows}
 use Rattle.file.proofs.Loads.Heads.{next_or_not}
@@ -64,12 +64,12 @@ Counts add held = (c d : Content) (w : ℕ) → add c w ≡ Ok d → (held c < 1
 
 module _ (add : Content → ℕ → Result Content FileRefusal) where
   -- one record more, by what is made of it
-  turn : (n : ℕ) (bs : List ℕ) (place : ℕ) (c : Content) (o : Result Content FileRefusal) → 8 ≤ length bs → add c (word8 bs) ≡ o → records add (suc n) bs place c ≡ go_on (at_place o place) (records add n (drop 8 bs) (place + 8))
-  unfolding records
+  turn : (n : ℕ) (bs : List ℕ) (place : ℕ) (c : Content) (o : Result Content FileRefusal) → 8 ≤ length bs → add c (word8 bs) ≡ o → records_added add (suc n) bs place c ≡ go_on (at_place o place) (records_added add n (drop 8 bs) (place + 8))
+  unfolding records_added
   turn n bs place c o long e = let l = le-ltb (length bs) 8 long in rw (l, e)
 
   -- refused alike, by what is made of the first record
-  after : (n : ℕ) (bs ys : List ℕ) (place : ℕ) (c : Content) (o : Result Content FileRefusal) → 8 ≤ length bs → add c (word8 bs) ≡ o → ((d : Content) → o ≡ Ok d → Alike (records add n (drop 8 bs ++ ys) (place + 8) d) (records add n (drop 8 bs) (place + 8) d)) → Alike (records add (suc n) (bs ++ ys) place c) (records add (suc n) bs place c)
+  after : (n : ℕ) (bs ys : List ℕ) (place : ℕ) (c : Content) (o : Result Content FileRefusal) → 8 ≤ length bs → add c (word8 bs) ≡ o → ((d : Content) → o ≡ Ok d → Alike (records_added add n (drop 8 bs ++ ys) (place + 8) d) (records_added add n (drop 8 bs) (place + 8) d)) → Alike (records_added add (suc n) (bs ++ ys) place c) (records_added add (suc n) bs place c)
   after n bs ys place c (Err e) long is then =
       record {
         why = fault_at e place;
@@ -80,13 +80,13 @@ module _ (add : Content → ℕ → Result Content FileRefusal) where
       let a = then d refl in
       record {
         why = a.why;
-        first = turn n (bs ++ ys) place c (Ok d) (omega (arith, length-append bs ys)) (ap (add c) (word8_on bs ys long) ∙ is) ∙ (ap (λ (zs : List ℕ). records add n zs (place + 8) d) (drop-append-le 8 bs ys long) ∙ a.first);
+        first = turn n (bs ++ ys) place c (Ok d) (omega (arith, length-append bs ys)) (ap (add c) (word8_on bs ys long) ∙ is) ∙ (ap (λ (zs : List ℕ). records_added add n zs (place + 8) d) (drop-append-le 8 bs ys long) ∙ a.first);
         second = turn n bs place c (Ok d) long is ∙ a.second;
       }
 
   -- more records than there is room for are refused among the first of them
   module _ (held : Content → ℕ) (counts : Counts add held) where
-    stopped : (k n : ℕ) (bs ys : List ℕ) (place : ℕ) (c : Content) → 8 * suc k ≤ length bs → k < n → 128 ≤ held c + k → Alike (records add n (bs ++ ys) place c) (records add n bs place c)
+    stopped : (k n : ℕ) (bs ys : List ℕ) (place : ℕ) (c : Content) → 8 * suc k ≤ length bs → k < n → 128 ≤ held c + k → Alike (records_added add n (bs ++ ys) place c) (records_added add n bs place c)
     unfolding Counts
     stopped k zero bs ys place c long more full = absurd (omega arith)
     stopped zero (suc n) bs ys place c long more full =
@@ -113,7 +113,7 @@ module _ (m : Meaning) (trust : ℕ) where
       ((line_taken m c l k.0).room, ap (λ (z : Content). length z.lines) (sym k.1 ∙ left) ∙ length-append c.lines (l ∷ []))
 
 -- a piece with more bytes behind it
-abbrev longer : Piece → List ℕ → Piece
+abbrev longer : PartRead → List ℕ → PartRead
 longer q ys = record { bytes = q.bytes ++ ys; place = q.place }
 
 code_on : (bs ys : List ℕ) → 2 ≤ length bs → head_code (bs ++ ys) ≡ head_code bs
@@ -126,7 +126,7 @@ size_on : (bs ys : List ℕ) → 2 ≤ length bs → head_size (bs ++ ys) ≡ he
 size_on bs ys long = let c = code_on bs ys long in let n = count_on bs ys long in rw (c, n)
 
 -- what is left after a section that the shorter piece holds whole
-past_on : (q : Piece) (ys : List ℕ) → head_size q.bytes + 2 ≤ length q.bytes → past (longer q ys) ≡ longer (past q) ys
+past_on : (q : PartRead) (ys : List ℕ) → head_size q.bytes + 2 ≤ length q.bytes → past (longer q ys) ≡ longer (past q) ys
 past_on q ys whole =
     let s = size_on q.bytes ys (omega arith) in
     let b : drop (head_size (q.bytes ++ ys)) (drop 2 (q.bytes ++ ys)) ≡ drop (head_size q.bytes) (drop 2 q.bytes) ++ ys =
@@ -135,23 +135,23 @@ past_on q ys whole =
     rw s (omega (arith, length-append q.bytes ys)) in
     λ i. record { bytes = b i; place = p i }
 
-past_length : (q : Piece) → length (past q).bytes ≡ length q.bytes - 2 - head_size q.bytes
+past_length : (q : PartRead) → length (past q).bytes ≡ length q.bytes - 2 - head_size q.bytes
 past_length q = length-drop (head_size q.bytes) (drop 2 q.bytes) ∙ ap (λ (n : ℕ). n - head_size q.bytes) (length-drop 2 q.bytes)
 
 -- two bytes or more where no section may come
-end_refused : (p : Piece) (x : Loaded) → 2 ≤ length p.bytes → at_end p x ≡ Err (fault_at WrongSection p.place)
+end_refused : (p : PartRead) (x : Loaded) → 2 ≤ length p.bytes → at_end p x ≡ Err (fault_at WrongSection p.place)
 unfolding at_end
 end_refused p x long = grind (arith, nat_tests)
 
 module _ (m : Meaning) (trust : ℕ) where
   -- a note that the file holds whole
-  pub note_kept : (p : Piece) (x : Loaded) → head_code p.bytes ≡ note_code → head_count p.bytes + 2 ≤ length p.bytes → section_added m trust (next_section p) x ≡ Ok (loaded_as x.content (next_section p).part)
+  pub note_kept : (p : PartRead) (x : Loaded) → head_code p.bytes ≡ note_code → head_count p.bytes + 2 ≤ length p.bytes → section_added m trust (next_section p) x ≡ Ok (loaded_as x.content (next_section p).part)
   note_kept p x is long =
       let n = head_count p.bytes in
       let whole = le-ltb (length (take n (drop 2 p.bytes))) n (omega (arith, length-take n (drop 2 p.bytes), length-drop 2 p.bytes)) in
       rw (is, whole)
 
-  note_on : (q : Piece) (ys : List ℕ) (x y : Loaded) → 4099 ≤ length q.bytes → Alike (from_note m trust (longer q ys) x) (from_note m trust q y)
+  note_on : (q : PartRead) (ys : List ℕ) (x y : Loaded) → 4099 ≤ length q.bytes → Alike (from_note m trust (longer q ys) x) (from_note m trust q y)
   note_on q ys x y long =
       let long' : 2 ≤ length (q.bytes ++ ys) = omega (arith, length-append q.bytes ys) in
       let c = code_on q.bytes ys (omega arith) in
@@ -164,7 +164,7 @@ module _ (m : Meaning) (trust : ℕ) where
             let end : 2 ≤ length (past q).bytes = omega (arith, past_length q) in
             record {
               why = fault_at WrongSection (past q).place;
-              first = takes_note m trust (longer q ys) x long' (c ∙ next.1) ∙ (ap (λ (o : Result Loaded LoadFault). go_on o (at_end (past (longer q ys)))) (note_kept (longer q ys) x (c ∙ next.1) (omega (arith, length-append q.bytes ys))) ∙ (ap (λ (p : Piece). at_end p (loaded_as x.content (next_section (longer q ys)).part)) past' ∙ end_refused (longer (past q) ys) _ (omega (arith, length-append (past q).bytes ys))));
+              first = takes_note m trust (longer q ys) x long' (c ∙ next.1) ∙ (ap (λ (o : Result Loaded LoadFault). go_on o (at_end (past (longer q ys)))) (note_kept (longer q ys) x (c ∙ next.1) (omega (arith, length-append q.bytes ys))) ∙ (ap (λ (p : PartRead). at_end p (loaded_as x.content (next_section (longer q ys)).part)) past' ∙ end_refused (longer (past q) ys) _ (omega (arith, length-append (past q).bytes ys))));
               second = takes_note m trust q y next.0 next.1 ∙ (ap (λ (o : Result Loaded LoadFault). go_on o (at_end (past q))) (note_kept q y next.1 (omega arith)) ∙ end_refused (past q) _ end);
             }
         | inr other ↦
@@ -176,23 +176,23 @@ module _ (m : Meaning) (trust : ℕ) where
       ]
 
   -- a section of records, and what comes next, which is refused alike where so many bytes are left
-  module _ (code : ℕ) (add : Content → ℕ → Result Content FileRefusal) (held : Content → ℕ) (counts : Counts add held) (size : ℕ) (next : Piece → Loaded → Result Loaded LoadFault) (sized : (p : Piece) → head_code p.bytes ≡ code → head_size p.bytes ≡ 8 * head_count p.bytes) (is_section : (p : Piece) (x : Loaded) → head_code p.bytes ≡ code → section_added m trust (next_section p) x ≡ go_on (records add (head_count p.bytes) (take (8 * head_count p.bytes) (drop 2 p.bytes)) (p.place + 2) x.content) (with_content x)) (next_on : (q : Piece) (ys : List ℕ) (c : Content) (u v : Piece) → size ≤ length q.bytes → Alike (next (longer q ys) (loaded_as c u)) (next q (loaded_as c v))) where
-    section : Piece → Loaded → Result Loaded LoadFault
+  module _ (code : ℕ) (add : Content → ℕ → Result Content FileRefusal) (held : Content → ℕ) (counts : Counts add held) (size : ℕ) (next : PartRead → Loaded → Result Loaded LoadFault) (sized : (p : PartRead) → head_code p.bytes ≡ code → head_size p.bytes ≡ 8 * head_count p.bytes) (is_section : (p : PartRead) (x : Loaded) → head_code p.bytes ≡ code → section_added m trust (next_section p) x ≡ go_on (records_added add (head_count p.bytes) (take (8 * head_count p.bytes) (drop 2 p.bytes)) (p.place + 2) x.content) (with_content x)) (next_on : (q : PartRead) (ys : List ℕ) (c : Content) (u v : PartRead) → size ≤ length q.bytes → Alike (next (longer q ys) (loaded_as c u)) (next q (loaded_as c v))) where
+    section : PartRead → Loaded → Result Loaded LoadFault
     section p x = go_on (section_added m trust (next_section p) x) (next (past p))
 
     -- by what the records make of the board
-    by : (p : Piece) (x : Loaded) (o : Result Content LoadFault) → head_code p.bytes ≡ code → records add (head_count p.bytes) (take (8 * head_count p.bytes) (drop 2 p.bytes)) (p.place + 2) x.content ≡ o → section p x ≡ go_on (go_on o (with_content x)) (next (past p))
+    by : (p : PartRead) (x : Loaded) (o : Result Content LoadFault) → head_code p.bytes ≡ code → records_added add (head_count p.bytes) (take (8 * head_count p.bytes) (drop 2 p.bytes)) (p.place + 2) x.content ≡ o → section p x ≡ go_on (go_on o (with_content x)) (next (past p))
     unfolding section
     by p x o is e = ap (λ (z : Result Loaded LoadFault). go_on z (next (past p))) (is_section p x is ∙ ap (λ (z : Result Content LoadFault). go_on z (with_content x)) e)
 
     -- the records of the longer piece
-    records_on : (q : Piece) (ys : List ℕ) (c : Content) (zs : List ℕ) → 2 ≤ length q.bytes → take (8 * head_count q.bytes) (drop 2 q.bytes ++ ys) ≡ zs → records add (head_count (q.bytes ++ ys)) (take (8 * head_count (q.bytes ++ ys)) (drop 2 (q.bytes ++ ys))) (q.place + 2) c ≡ records add (head_count q.bytes) zs (q.place + 2) c
+    records_on : (q : PartRead) (ys : List ℕ) (c : Content) (zs : List ℕ) → 2 ≤ length q.bytes → take (8 * head_count q.bytes) (drop 2 q.bytes ++ ys) ≡ zs → records_added add (head_count (q.bytes ++ ys)) (take (8 * head_count (q.bytes ++ ys)) (drop 2 (q.bytes ++ ys))) (q.place + 2) c ≡ records_added add (head_count q.bytes) zs (q.place + 2) c
     records_on q ys c zs long e =
         let n = count_on q.bytes ys long in
         let d = drop-append-le 2 q.bytes ys long in
         rw (n, d, e)
 
-    few_on : (q : Piece) (ys : List ℕ) (c : Content) (u v : Piece) (o : Result Content LoadFault) → 1034 + size ≤ length q.bytes → head_code q.bytes ≡ code → head_count q.bytes < 129 → records add (head_count q.bytes) (take (8 * head_count q.bytes) (drop 2 q.bytes)) (q.place + 2) c ≡ o → Alike (section (longer q ys) (loaded_as c u)) (section q (loaded_as c v))
+    few_on : (q : PartRead) (ys : List ℕ) (c : Content) (u v : PartRead) (o : Result Content LoadFault) → 1034 + size ≤ length q.bytes → head_code q.bytes ≡ code → head_count q.bytes < 129 → records_added add (head_count q.bytes) (take (8 * head_count q.bytes) (drop 2 q.bytes)) (q.place + 2) c ≡ o → Alike (section (longer q ys) (loaded_as c u)) (section q (loaded_as c v))
     few_on q ys c u v (Err e) long is few r =
         let t = take-append-le (8 * head_count q.bytes) (drop 2 q.bytes) ys (omega (arith, length-drop 2 q.bytes)) in
         record {
@@ -207,11 +207,11 @@ module _ (m : Meaning) (trust : ℕ) where
         let a = next_on (past q) ys d u v left in
         record {
           why = a.why;
-          first = by (longer q ys) (loaded_as c u) (Ok d) (code_on q.bytes ys (omega arith) ∙ is) (records_on q ys c _ (omega arith) t ∙ r) ∙ (ap (λ (p : Piece). next p (loaded_as d u)) (past_on q ys (omega arith)) ∙ a.first);
+          first = by (longer q ys) (loaded_as c u) (Ok d) (code_on q.bytes ys (omega arith) ∙ is) (records_on q ys c _ (omega arith) t ∙ r) ∙ (ap (λ (p : PartRead). next p (loaded_as d u)) (past_on q ys (omega arith)) ∙ a.first);
           second = by q (loaded_as c v) (Ok d) is r ∙ a.second;
         }
 
-    many_on : (q : Piece) (ys : List ℕ) (c : Content) (u v : Piece) → 1034 + size ≤ length q.bytes → head_code q.bytes ≡ code → 129 ≤ head_count q.bytes → Alike (section (longer q ys) (loaded_as c u)) (section q (loaded_as c v))
+    many_on : (q : PartRead) (ys : List ℕ) (c : Content) (u v : PartRead) → 1034 + size ≤ length q.bytes → head_code q.bytes ≡ code → 129 ≤ head_count q.bytes → Alike (section (longer q ys) (loaded_as c u)) (section q (loaded_as c v))
     many_on q ys c u v long is many =
         let n = head_count q.bytes in
         let front = take (8 * n) (drop 2 q.bytes) in
@@ -223,7 +223,7 @@ module _ (m : Meaning) (trust : ℕ) where
           second = by q (loaded_as c v) (Err a.why) is a.second;
         }
 
-    section_on : (q : Piece) (ys : List ℕ) (c : Content) (u v : Piece) → 1034 + size ≤ length q.bytes → head_code q.bytes ≡ code → Alike (section (longer q ys) (loaded_as c u)) (section q (loaded_as c v))
+    section_on : (q : PartRead) (ys : List ℕ) (c : Content) (u v : PartRead) → 1034 + size ≤ length q.bytes → head_code q.bytes ≡ code → Alike (section (longer q ys) (loaded_as c u)) (section q (loaded_as c v))
     section_on q ys c u v long is =
         elim (cases_lt (head_count q.bytes) 129) [
           | inl few ↦ few_on q ys c u v _ long is few refl
@@ -233,10 +233,10 @@ module _ (m : Meaning) (trust : ℕ) where
   alike_by : {a a' b b' : Result Loaded LoadFault} → a ≡ a' → b ≡ b' → Alike a' b' → Alike a b
   alike_by e f h = record { why = h.why; first = e ∙ h.first; second = f ∙ h.second }
 
-  other_on : (q : Piece) (ys : List ℕ) (code : ℕ) → 2 ≤ length q.bytes → (length q.bytes < 2) ⊎ (head_code q.bytes ≡ code → ⊥) → (length (q.bytes ++ ys) < 2) ⊎ (head_code (q.bytes ++ ys) ≡ code → ⊥)
+  other_on : (q : PartRead) (ys : List ℕ) (code : ℕ) → 2 ≤ length q.bytes → (length q.bytes < 2) ⊎ (head_code q.bytes ≡ code → ⊥) → (length (q.bytes ++ ys) < 2) ⊎ (head_code (q.bytes ++ ys) ≡ code → ⊥)
   other_on q ys code long other = let c = code_on q.bytes ys long in ⊎_elim (λ h. absurd (omega arith)) (λ h. inr (λ e. h (sym c ∙ e))) other
 
-  lines_on : (q : Piece) (ys : List ℕ) (c : Content) (u v : Piece) → 5133 ≤ length q.bytes → Alike (from_lines m trust (longer q ys) (loaded_as c u)) (from_lines m trust q (loaded_as c v))
+  lines_on : (q : PartRead) (ys : List ℕ) (c : Content) (u v : PartRead) → 5133 ≤ length q.bytes → Alike (from_lines m trust (longer q ys) (loaded_as c u)) (from_lines m trust q (loaded_as c v))
   unfolding section
   lines_on q ys c u v long =
       let long' : 2 ≤ length (q.bytes ++ ys) = omega (arith, length-append q.bytes ys) in
@@ -246,7 +246,7 @@ module _ (m : Meaning) (trust : ℕ) where
         | inr other ↦ alike_by (passes_lines m trust (longer q ys) (loaded_as c u) (other_on q ys 2 (omega arith) other)) (passes_lines m trust q (loaded_as c v) other) (note_on q ys (loaded_as c u) (loaded_as c v) (omega arith))
       ]
 
-  rows_on : (q : Piece) (ys : List ℕ) (c : Content) (u v : Piece) → 6167 ≤ length q.bytes → Alike (from_rows m trust (longer q ys) (loaded_as c u)) (from_rows m trust q (loaded_as c v))
+  rows_on : (q : PartRead) (ys : List ℕ) (c : Content) (u v : PartRead) → 6167 ≤ length q.bytes → Alike (from_rows m trust (longer q ys) (loaded_as c u)) (from_rows m trust q (loaded_as c v))
   unfolding section
   rows_on q ys c u v long =
       let long' : 2 ≤ length (q.bytes ++ ys) = omega (arith, length-append q.bytes ys) in
@@ -277,7 +277,7 @@ module _ (m : Meaning) where
       let h : after_header (bs ++ ys) ≡ longer (after_header bs) ys = λ i. record { bytes = drop-append-le 4 bs ys (omega arith) i; place = 4 } in
       record {
         why = a.why;
-        first = ap (λ (o : Result Opened FileRefusal). go_on (at_place o 0) (λ (z : Opened). from_rows m z.trust (after_header (bs ++ ys)) (loaded_as z.content (no_note (bs ++ ys))))) (opened_on bs ys new (omega arith) ∙ is) ∙ (ap (λ (p : Piece). from_rows m d.trust p (loaded_as d.content (no_note (bs ++ ys)))) h ∙ a.first);
+        first = ap (λ (o : Result Opened FileRefusal). go_on (at_place o 0) (λ (z : Opened). from_rows m z.trust (after_header (bs ++ ys)) (loaded_as z.content (no_note (bs ++ ys))))) (opened_on bs ys new (omega arith) ∙ is) ∙ (ap (λ (p : PartRead). from_rows m d.trust p (loaded_as d.content (no_note (bs ++ ys)))) h ∙ a.first);
         second = ap (λ (o : Result Opened FileRefusal). go_on (at_place o 0) (λ (z : Opened). from_rows m z.trust (after_header bs) (loaded_as z.content (no_note bs)))) is ∙ a.second;
       }
 

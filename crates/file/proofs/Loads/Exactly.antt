@@ -14,7 +14,7 @@ use Rattle.file.specs.declared.refusal.FileRefusal.{FileRefusal}
 use Rattle.file.specs.declared.refusal.FileRefusal.TheVariants.{CutShort}
 use Rattle.file.specs.declared.refusal.LoadFault.{LoadFault}
 use Rattle.file.specs.Fields.{word4, header_read}
-use Rattle.file.specs.Parts.{Piece}
+use Rattle.file.specs.Parts.{PartRead}
 use Rattle.file.specs.Records.{go_on, at_place}
 use Rattle.file.specs.Load.{Opened, opened, Loaded, loaded_as, from_rows, sized, no_note, after_header, loaded, note_answer, content_left, load_answer, load_after}
 use Rattle.file.specs.Layout.{Description, in_bytes, header_word, sections_written, header_written, written, Byte, KeepsLimits, content_of, note_at_end, Described, LoadsExactly}
@@ -142,7 +142,7 @@ module _ (m : Meaning) where
       let read : header_read m (word4 (header_written d ++ rest)) ≡ Ok h = ap (header_read m) word ∙ header_word_read m d.letter d.modes d.moments d.trust k.letter_fits k.modes_fit k.moments_fit k.trust_fits k.own_letter k.plain_trust in
       past_header (header_written d ++ rest) h (with_size new d.modes d.moments) (omega arith) read (sized_ok h k.some_place k.few_places)
 
-  accepts : (bs : List ℕ) (c : Content) (n : Piece) → Described m bs c n → loaded m bs ≡ Ok (loaded_as c n)
+  accepts : (bs : List ℕ) (c : Content) (n : PartRead) → Described m bs c n → loaded m bs ≡ Ok (loaded_as c n)
   accepts bs c n is =
       let d = is.description in
       let k = is.keeps in
@@ -163,7 +163,7 @@ module _ (m : Meaning) where
       ∙ rows_accepted m d.trust d.rows d.lines d.note (after_header (written d)) (loaded_as (with_size new d.modes d.moments) (no_note (written d))) (loaded_as c n) t)
 
   -- a load that answered a note and left a content
-  answered_ok : (o : Result Loaded LoadFault) (c : Content) (n : Piece) → note_answer o ≡ Ok n → content_left o ≡ c → o ≡ Ok (loaded_as c n)
+  answered_ok : (o : Result Loaded LoadFault) (c : Content) (n : PartRead) → note_answer o ≡ Ok n → content_left o ≡ c → o ≡ Ok (loaded_as c n)
   answered_ok (Ok y) c n h k = let e : y.note ≡ n = cc in ap Ok (λ i. loaded_as (k i) (e i))
   answered_ok (Err f) c n h k = absurd cc
 
@@ -174,7 +174,7 @@ module _ (m : Meaning) where
   )
 
 -- the same of an answer and a content that are the defined ones
-pub exactly : (m : Meaning) (bs : List ℕ) (answer : Result Piece LoadFault) (after : Content) → ((i : ℕ) → get_or bs i 0 < 256) → answer ≡ load_answer m bs → after ≡ load_after m bs → LoadsExactly m bs answer after
+pub exactly : (m : Meaning) (bs : List ℕ) (answer : Result PartRead LoadFault) (after : Content) → ((i : ℕ) → get_or bs i 0 < 256) → answer ≡ load_answer m bs → after ≡ load_after m bs → LoadsExactly m bs answer after
 exactly m bs answer after e h k =
-    subst (λ (a : Result Piece LoadFault). LoadsExactly m bs a after) (sym h)
+    subst (λ (a : Result PartRead LoadFault). LoadsExactly m bs a after) (sym h)
     (subst (λ (c : Content). LoadsExactly m bs (load_answer m bs) c) (sym k) (loads_exactly m bs e))

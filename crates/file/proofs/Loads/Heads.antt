@@ -4,7 +4,7 @@ use Rattle.std.proofs.lemmas.List.{length-drop}
 use Rattle.std.proofs.lemmas.Bool.{cases_eq, cases_lt}
 use Rattle.std.specs.List.{AllByRecursion}
 use Rattle.file.specs.Fields.{field, word2, head_code, head_count}
-use Rattle.file.specs.Parts.{Piece}
+use Rattle.file.specs.Parts.{PartRead}
 use Rattle.file.specs.Sections.{past}
 use Rattle.file.specs.Layout.{in_bytes, head_word, Byte}
 use Rattle.file.proofs.Loads.Bytes.{word2_bytes, bytes_word2, word2_fits}
@@ -22,7 +22,7 @@ next_or_not code bs =
     ]
 
 -- what is left ends where the file ends
-pub past_ends : (p : Piece) → 2 ≤ length p.bytes → (past p).place + length (past p).bytes ≡ p.place + length p.bytes
+pub past_ends : (p : PartRead) → 2 ≤ length p.bytes → (past p).place + length (past p).bytes ≡ p.place + length p.bytes
 past_ends p long = simp length-drop (omega arith)
 
 -- a section as it is laid out: its head, so many bytes of body, and the rest

@@ -10,7 +10,7 @@ use Rattle.board.specs.Rows.{formed}
 use Rattle.board.specs.Content.{Content}
 use Rattle.board.specs.Calls.{row_fault, row_after, with_row, line_fault, line_after, with_line}
 use Rattle.file.specs.Fields.{row_read, line_read}
-use Rattle.file.specs.Records.{go_on, called, row_added, line_added, trusted_line, row_record, line_record, records}
+use Rattle.file.specs.Records.{go_on, called, row_added, line_added, trusted_line, row_record, line_record, records_added}
 use Rattle.file.specs.Layout.{row_word, line_word, row_bytes, line_bytes, Byte, RowLimits, LineLimits}
 use Rattle.file.proofs.Loads.Words.{RowFits, row_word_fits, row_word_read, row_read_word, LineFits, line_word_fits, line_word_read, line_read_word}
 use Rattle.file.proofs.Loads.Sequences.{Run, WasAdded, records_run, records_were}
@@ -200,19 +200,19 @@ pub record LinesRead (m : Meaning) (trust : ℕ) (c d : Content) (n : ℕ) (bs :
   pub after : d ≡ with_lines m trust c lines
 
 module _ (m : Meaning) (trust : ℕ) where
-  pub rows_forth : (rs : List Row) (rest : List ℕ) (place : ℕ) (c : Content) → length c.rows + length rs ≤ 128 → AllByRecursion (RowLimits m c.modes) rs → records (row_record m) (length rs) (flat_map row_bytes rs ++ rest) place c ≡ Ok (with_rows c rs)
+  pub rows_forth : (rs : List Row) (rest : List ℕ) (place : ℕ) (c : Content) → length c.rows + length rs ≤ 128 → AllByRecursion (RowLimits m c.modes) rs → records_added (row_record m) (length rs) (flat_map row_bytes rs ++ rest) place c ≡ Ok (with_rows c rs)
   rows_forth rs rest place c few e = records_run (row_record m) row_word RowFits (TakesRow m) (row_after m) row_word_fits (row_forth m trust) (row_back m trust) rs rest place c (with_rows c rs) (limited_rows m trust rs c few e)
 
-  pub rows_back : (n : ℕ) (bs : List ℕ) (place : ℕ) (c d : Content) → AllByRecursion Byte bs → length c.rows ≤ 128 → records (row_record m) n bs place c ≡ Ok d → RowsRead m c d n bs
+  pub rows_back : (n : ℕ) (bs : List ℕ) (place : ℕ) (c d : Content) → AllByRecursion Byte bs → length c.rows ≤ 128 → records_added (row_record m) n bs place c ≡ Ok d → RowsRead m c d n bs
   rows_back n bs place c d e few h =
       let w = records_were (row_record m) row_word RowFits (TakesRow m) (row_after m) row_word_fits (row_forth m trust) (row_back m trust) n bs place c d e h in
       let l = rows_limited m trust w.entries c d few w.run in
       record { rows = w.entries; count = w.count; laid = w.laid; few = l.0; keep = l.1; after = l.2 }
 
-  pub lines_forth : (ls : List Line) (rest : List ℕ) (place : ℕ) (c : Content) → length c.lines + length ls ≤ 128 → AllByRecursion (LineLimits m c.moments trust) ls → records (line_record m trust) (length ls) (flat_map line_bytes ls ++ rest) place c ≡ Ok (with_lines m trust c ls)
+  pub lines_forth : (ls : List Line) (rest : List ℕ) (place : ℕ) (c : Content) → length c.lines + length ls ≤ 128 → AllByRecursion (LineLimits m c.moments trust) ls → records_added (line_record m trust) (length ls) (flat_map line_bytes ls ++ rest) place c ≡ Ok (with_lines m trust c ls)
   lines_forth ls rest place c few e = records_run (line_record m trust) line_word LineFits (TakesLine m trust) (line_put m trust) line_word_fits (line_forth m trust) (line_back m trust) ls rest place c (with_lines m trust c ls) (limited_lines m trust ls c few e)
 
-  pub lines_back : (n : ℕ) (bs : List ℕ) (place : ℕ) (c d : Content) → AllByRecursion Byte bs → length c.lines ≤ 128 → records (line_record m trust) n bs place c ≡ Ok d → LinesRead m trust c d n bs
+  pub lines_back : (n : ℕ) (bs : List ℕ) (place : ℕ) (c d : Content) → AllByRecursion Byte bs → length c.lines ≤ 128 → records_added (line_record m trust) n bs place c ≡ Ok d → LinesRead m trust c d n bs
   lines_back n bs place c d e few h =
       let w = records_were (line_record m trust) line_word LineFits (TakesLine m trust) (line_put m trust) line_word_fits (line_forth m trust) (line_back m trust) n bs place c d e h in
       let l = lines_limited m trust w.entries c d few w.run in

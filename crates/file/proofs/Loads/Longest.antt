@@ -4,7 +4,7 @@ use Rattle.costs.specs.Meaning.{Meaning}
 use Rattle.board.specs.Content.{Content}
 use Rattle.file.specs.declared.part.Part.{Part}
 use Rattle.file.specs.declared.refusal.LoadFault.{LoadFault}
-use Rattle.file.specs.Parts.{piece, answered}
+use Rattle.file.specs.Parts.{part_read, answered}
 use Rattle.file.specs.Sections.{rows_code, lines_code, note_code}
 use Rattle.file.specs.Layout.{Description, held_in, row_bytes, line_bytes, one_byte, section_written, written, KeepsLimits, LoadsExactly, longest_file}
 use Rattle.file.proofs.Loads.Tails.{each_length, bytes_written}
@@ -31,6 +31,6 @@ written_length m d k =
 
 pub no_longer : (m : Meaning) (bs : List ℕ) (r : Result Part LoadFault) (after : Content) → LoadsExactly m bs (answered r) after → IfOk r (λ p. length bs ≤ longest_file)
 no_longer m bs (Ok p) after exact =
-    let d = (exact after (piece p)).0 (refl, refl) in
+    let d = (exact after (part_read p)).0 (refl, refl) in
     subst (λ (ys : List ℕ). length ys ≤ longest_file) d.laid_out (written_length m d.description d.keeps)
 no_longer m bs (Err e) after exact = tt

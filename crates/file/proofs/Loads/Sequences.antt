@@ -8,7 +8,7 @@ use Rattle.file.specs.declared.refusal.FileRefusal.{FileRefusal}
 use Rattle.file.specs.declared.refusal.FileRefusal.TheVariants.{CutShort}
 use Rattle.file.specs.declared.refusal.LoadFault.{LoadFault}
 use Rattle.file.specs.Fields.{word8}
-use Rattle.file.specs.Records.{go_on, at_place, records}
+use Rattle.file.specs.Records.{go_on, at_place, records_added}
 use Rattle.file.specs.Layout.{in_bytes, Byte}
 use Rattle.file.proofs.Loads.Bytes.{word8_bytes, bytes_word8, word8_fits, each_drop}
 use Rattle.file.proofs.Loads.Steps.{records_none, records_more}
@@ -62,7 +62,7 @@ then_others {word_of = word_of} {Fits = Fits} {Taken = Taken} {put = put} c next
     }
 
 module _ {A : Type 0} (add : Content → ℕ → Result Content FileRefusal) (word_of : A → ℕ) (Fits : A → Type 0) (Taken : Content → A → Type 0) (put : Content → A → Content) (small : (x : A) → Fits x → word_of x < 2 ^ 64) (forth : (c : Content) (x : A) → Fits x → Taken c x → add c (word_of x) ≡ Ok (put c x)) (back : (c d : Content) (w : ℕ) → w < 2 ^ 64 → add c w ≡ Ok d → WasAdded word_of Fits Taken put c d w) where
-  pub records_run : (xs : List A) (rest : List ℕ) (place : ℕ) (c d : Content) → Run Fits Taken put c xs d → records add (length xs) (flat_map (λ x. in_bytes 8 (word_of x)) xs ++ rest) place c ≡ Ok d
+  pub records_run : (xs : List A) (rest : List ℕ) (place : ℕ) (c d : Content) → Run Fits Taken put c xs d → records_added add (length xs) (flat_map (λ x. in_bytes 8 (word_of x)) xs ++ rest) place c ≡ Ok d
   records_run [] rest place c d r = records_none add rest place c ∙ ap Ok (sym r)
   records_run (x ∷ xs) rest place c d (fits, taken, r) =
       let tail = flat_map (λ y. in_bytes 8 (word_of y)) xs ++ rest in
@@ -71,11 +71,11 @@ module _ {A : Type 0} (add : Content → ℕ → Result Content FileRefusal) (wo
       records_more add (in_bytes 8 (word_of x) ++ tail) place c (suc (length xs)) (length xs) (put c x) (omega arith) (rw long (sym (ap (add c) w ∙ forth c x fits taken)))
       ∙ records_run xs rest (place + 8) (put c x) d r
 
-  pub records_were : (n : ℕ) (bs : List ℕ) (place : ℕ) (c d : Content) → AllByRecursion Byte bs → records add n bs place c ≡ Ok d → WereAdded word_of Fits Taken put c d n bs
-  unfolding records
+  pub records_were : (n : ℕ) (bs : List ℕ) (place : ℕ) (c d : Content) → AllByRecursion Byte bs → records_added add n bs place c ≡ Ok d → WereAdded word_of Fits Taken put c d n bs
+  unfolding records_added
   records_were zero bs place c d e h = record { entries = []; count = refl; laid = refl; run = cc }
   records_were (suc n) bs place c d e h =
-      let o = one_more (ltb (length bs) 8) (add c (word8 bs)) (records add n (drop 8 bs) (place + 8)) place CutShort d h in
+      let o = one_more (ltb (length bs) 8) (add c (word8 bs)) (records_added add n (drop 8 bs) (place + 8)) place CutShort d h in
       then_others c o.next d n bs e (ltb-false (length bs) 8 o.whole)
       (back c o.next (word8 bs) (word8_fits bs e) o.added)
       (records_were n (drop 8 bs) (place + 8) o.next d (each_drop 8 bs e) o.on)

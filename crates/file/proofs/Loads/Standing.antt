@@ -11,7 +11,7 @@ use Rattle.file.specs.declared.call.Answer.{Answer}
 use Rattle.file.specs.declared.call.Answer.TheVariants as answer
 use Rattle.file.specs.declared.call.NoteSpan.{NoteSpan}
 use Rattle.file.specs.declared.refusal.LoadFault.{LoadFault}
-use Rattle.file.specs.Parts.{Piece}
+use Rattle.file.specs.Parts.{PartRead}
 use Rattle.file.specs.Sections.{rows_code, lines_code, note_code}
 use Rattle.file.specs.Load.{load_answer}
 use Rattle.file.specs.Layout.{Description, held_in, in_bytes, header_word, head_word, row_bytes, line_bytes, one_byte, section_written, written, note_at_end, note_of, LoadsExactly}
@@ -47,13 +47,13 @@ described : (d : Description) → bytes_at (span (note_of d)) (written d) ≡ (n
 described d = let b = ends d d.note refl in at_end d.note (written d) b.0 b.1
 
 -- what a load answers
-pub load_stands : (m : Meaning) (file : Bor (List ℕ)) (a : Result Piece LoadFault) (after : Content) (r : Result NoteSpan LoadFault) → LoadsExactly m file.now a after → a ≡ load_answer m file.now → r ≡ spanned a → NoteStands m (call.Load file) (answer.Loaded r)
+pub load_stands : (m : Meaning) (file : Bor (List ℕ)) (a : Result PartRead LoadFault) (after : Content) (r : Result NoteSpan LoadFault) → LoadsExactly m file.now a after → a ≡ load_answer m file.now → r ≡ spanned a → NoteStands m (call.Load file) (answer.Loaded r)
 load_stands m file a after (Err e) exact is same = tt
 load_stands m file (Err f) after (Ok n) exact is same = absurd cc
 load_stands m file (Ok p) after (Ok n) exact is same =
     let d = (exact after p).0 (refl, refl) in
     let there : bytes_at (span p) file.now ≡ p.bytes =
-    subst (λ (x : Piece). bytes_at (span x) file.now ≡ x.bytes) (sym d.notes)
+    subst (λ (x : PartRead). bytes_at (span x) file.now ≡ x.bytes) (sym d.notes)
     (subst (λ (ys : List ℕ). bytes_at (span (note_of d.description)) ys ≡ (note_of d.description).bytes) d.laid_out (described d.description)) in
     let e : span p ≡ n = cc in
     let bytes : p.bytes ≡ bytes_at n file.now = sym there ∙ ap (λ (s : NoteSpan). bytes_at s file.now) e in

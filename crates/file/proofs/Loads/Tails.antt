@@ -11,9 +11,9 @@ use Rattle.board.specs.Content.{Content}
 use Rattle.file.specs.declared.refusal.FileRefusal.TheVariants.{CutShort}
 use Rattle.file.specs.declared.refusal.LoadFault.{LoadFault}
 use Rattle.file.specs.Fields.{word2, head_code, head_count}
-use Rattle.file.specs.Parts.{Piece, fault_at}
+use Rattle.file.specs.Parts.{PartRead, fault_at}
 use Rattle.file.specs.Sections.{rows_code, lines_code, note_code, next_section, past}
-use Rattle.file.specs.Records.{go_on, trusted_line, row_record, line_record, records}
+use Rattle.file.specs.Records.{go_on, trusted_line, row_record, line_record, records_added}
 use Rattle.file.specs.Load.{Loaded, loaded_as, with_content, section_added, at_end, from_note, from_lines, from_rows}
 use Rattle.file.specs.Layout.{held_in, in_bytes, head_word, row_bytes, line_bytes, one_byte, section_written, sections_written, Byte, RowLimits, LineLimits}
 use Rattle.file.proofs.Loads.Bytes.{each_take, each_drop}
@@ -31,12 +31,12 @@ abbrev pub put_lines : Meaning → ℕ → Option (List Line) → Content → Co
 put_lines m trust None c = c
 put_lines m trust (Some ls) c = with_lines m trust c ls
 
-abbrev pub put_note : Option (List ℕ) → ℕ → Piece → Piece
+abbrev pub put_note : Option (List ℕ) → ℕ → PartRead → PartRead
 put_note None size n = n
 put_note (Some bs) size n = record { bytes = bs; place = size - length bs }
 
 -- What is left of the file, p, is laid out as these sections, which are within the limits and turn x into y.
-pub record Tail (m : Meaning) (trust : ℕ) (rows : Option (List Row)) (lines : Option (List Line)) (note : Option (List ℕ)) (p : Piece) (x y : Loaded) : Type 0 where
+pub record Tail (m : Meaning) (trust : ℕ) (rows : Option (List Row)) (lines : Option (List Line)) (note : Option (List ℕ)) (p : PartRead) (x y : Loaded) : Type 0 where
   pub laid : p.bytes ≡ sections_written rows lines note
   pub few_rows : length x.content.rows + length (held_in rows) ≤ 128
   pub rows_keep : AllByRecursion (RowLimits m x.content.modes) (held_in rows)
@@ -64,20 +64,20 @@ whole_body : (k : ℕ) (bs body : List ℕ) → take k bs ≡ body ++ drop k (ta
 whole_body k bs body h = h ∙ (ap (λ (ys : List ℕ). body ++ ys) (past_front k bs) ∙ append-nil body)
 
 -- the file's end
-ended : (p : Piece) (x y : Loaded) → at_end p x ≡ Ok y → (length p.bytes ≡ 0) × (x ≡ y)
+ended : (p : PartRead) (x y : Loaded) → at_end p x ≡ Ok y → (length p.bytes ≡ 0) × (x ≡ y)
 unfolding at_end
 ended p x y h = grind (arith, nat_tests)
 
-ends : (p : Piece) (x : Loaded) → length p.bytes ≡ 0 → at_end p x ≡ Ok x
+ends : (p : PartRead) (x : Loaded) → length p.bytes ≡ 0 → at_end p x ≡ Ok x
 unfolding at_end
 ends p x h = rw h
 
-module _ (m : Meaning) (trust : ℕ) (p : Piece) (x : Loaded) where
+module _ (m : Meaning) (trust : ℕ) (p : PartRead) (x : Loaded) where
   -- what a section of each code makes
-  pub rows_section : head_code p.bytes ≡ rows_code → section_added m trust (next_section p) x ≡ go_on (records (row_record m) (head_count p.bytes) (take (8 * head_count p.bytes) (drop 2 p.bytes)) (p.place + 2) x.content) (with_content x)
+  pub rows_section : head_code p.bytes ≡ rows_code → section_added m trust (next_section p) x ≡ go_on (records_added (row_record m) (head_count p.bytes) (take (8 * head_count p.bytes) (drop 2 p.bytes)) (p.place + 2) x.content) (with_content x)
   rows_section h = rw h
 
-  pub lines_section : head_code p.bytes ≡ lines_code → section_added m trust (next_section p) x ≡ go_on (records (line_record m trust) (head_count p.bytes) (take (8 * head_count p.bytes) (drop 2 p.bytes)) (p.place + 2) x.content) (with_content x)
+  pub lines_section : head_code p.bytes ≡ lines_code → section_added m trust (next_section p) x ≡ go_on (records_added (line_record m trust) (head_count p.bytes) (take (8 * head_count p.bytes) (drop 2 p.bytes)) (p.place + 2) x.content) (with_content x)
   lines_section h = rw h
 
   pub note_section : head_code p.bytes ≡ note_code → section_added m trust (next_section p) x ≡ cond (ltb (length (take (head_count p.bytes) (drop 2 p.bytes))) (head_count p.bytes)) (Err (fault_at CutShort (p.place + 2))) (Ok (loaded_as x.content (record { bytes = take (head_count p.bytes) (drop 2 p.bytes); place = p.place + 2 })))
@@ -97,7 +97,7 @@ module _ (m : Meaning) (trust : ℕ) (p : Piece) (x : Loaded) where
 -- From what is accepted to the layout.
 module _ (m : Meaning) (trust : ℕ) where
   -- nothing is left
-  none_left : (p : Piece) (x y : Loaded) → length x.content.rows ≤ 128 → length x.content.lines ≤ 128 → at_end p x ≡ Ok y → Tail m trust None None None p x y
+  none_left : (p : PartRead) (x y : Loaded) → length x.content.rows ≤ 128 → length x.content.lines ≤ 128 → at_end p x ≡ Ok y → Tail m trust None None None p x y
   none_left p x y few_rows few_lines h =
       let e = ended p x y h in
       record {
@@ -113,7 +113,7 @@ module _ (m : Meaning) (trust : ℕ) where
       }
 
   -- a note is left
-  note_made : (p : Piece) (x y : Loaded) (front : List ℕ) → length x.content.rows ≤ 128 → length x.content.lines ≤ 128 → p.bytes ≡ in_bytes 2 (head_word note_code (length front)) ++ (front ++ []) → length front < 4096 → AllByRecursion Byte front → loaded_as x.content (record { bytes = front; place = p.place + 2 }) ≡ y → Tail m trust None None (Some front) p x y
+  note_made : (p : PartRead) (x y : Loaded) (front : List ℕ) → length x.content.rows ≤ 128 → length x.content.lines ≤ 128 → p.bytes ≡ in_bytes 2 (head_word note_code (length front)) ++ (front ++ []) → length front < 4096 → AllByRecursion Byte front → loaded_as x.content (record { bytes = front; place = p.place + 2 }) ≡ y → Tail m trust None None (Some front) p x y
   note_made p x y front few_rows few_lines laid fits e is =
       let all : length p.bytes ≡ 2 + length front = omega (arith, ap length laid, ap length (append-nil front)) in
       let place : p.place + 2 ≡ (p.place + length p.bytes) - length front = omega arith in
@@ -129,7 +129,7 @@ module _ (m : Meaning) (trust : ℕ) where
         noted = ap (λ (z : Loaded). z.note) (sym is) ∙ (λ i. record { bytes = front; place = place i });
       }
 
-  note_left : (p : Piece) (x y : Loaded) → AllByRecursion Byte p.bytes → length x.content.rows ≤ 128 → length x.content.lines ≤ 128 → 2 ≤ length p.bytes → head_code p.bytes ≡ note_code → go_on (section_added m trust (next_section p) x) (at_end (past p)) ≡ Ok y → Tail m trust None None (Some (take (head_count p.bytes) (drop 2 p.bytes))) p x y
+  note_left : (p : PartRead) (x y : Loaded) → AllByRecursion Byte p.bytes → length x.content.rows ≤ 128 → length x.content.lines ≤ 128 → 2 ≤ length p.bytes → head_code p.bytes ≡ note_code → go_on (section_added m trust (next_section p) x) (at_end (past p)) ≡ Ok y → Tail m trust None None (Some (take (head_count p.bytes) (drop 2 p.bytes))) p x y
   note_left p x y e few_rows few_lines long is h =
       let n = head_count p.bytes in
       let front = take n (drop 2 p.bytes) in
@@ -141,7 +141,7 @@ module _ (m : Meaning) (trust : ℕ) where
       let laid = laid_section p.bytes note_code (length front) n front long e is whole refl in
       note_made p x y front few_rows few_lines (laid ∙ ap (λ (ys : List ℕ). in_bytes 2 (head_word note_code (length front)) ++ (front ++ ys)) rest) (omega (arith, count_below (word2 p.bytes), whole)) (each_take n (drop 2 p.bytes) (each_drop 2 p.bytes e)) (w.1 ∙ last.1)
 
-  pub note_tail : (p : Piece) (x y : Loaded) → AllByRecursion Byte p.bytes → length x.content.rows ≤ 128 → length x.content.lines ≤ 128 → from_note m trust p x ≡ Ok y → (note : Option (List ℕ)) × Tail m trust None None note p x y
+  pub note_tail : (p : PartRead) (x y : Loaded) → AllByRecursion Byte p.bytes → length x.content.rows ≤ 128 → length x.content.lines ≤ 128 → from_note m trust p x ≡ Ok y → (note : Option (List ℕ)) × Tail m trust None None note p x y
   note_tail p x y e few_rows few_lines h =
       elim (next_or_not note_code p.bytes) [
         | inl next ↦ (_, note_left p x y e few_rows few_lines next.0 next.1 (sym (takes_note m trust p x next.0 next.1) ∙ h))
@@ -149,7 +149,7 @@ module _ (m : Meaning) (trust : ℕ) where
       ]
 
   -- lines are left, and what follows them
-  lines_made : (p : Piece) (x y : Loaded) (ls : List Line) (note : Option (List ℕ)) → length x.content.rows ≤ 128 → length x.content.lines + length ls ≤ 128 → AllByRecursion (LineLimits m x.content.moments trust) ls → 2 ≤ length p.bytes → p.bytes ≡ in_bytes 2 (head_word lines_code (length ls)) ++ (flat_map line_bytes ls ++ (past p).bytes) → Tail m trust None None note (past p) (loaded_as (with_lines m trust x.content ls) x.note) y → Tail m trust None (Some ls) note p x y
+  lines_made : (p : PartRead) (x y : Loaded) (ls : List Line) (note : Option (List ℕ)) → length x.content.rows ≤ 128 → length x.content.lines + length ls ≤ 128 → AllByRecursion (LineLimits m x.content.moments trust) ls → 2 ≤ length p.bytes → p.bytes ≡ in_bytes 2 (head_word lines_code (length ls)) ++ (flat_map line_bytes ls ++ (past p).bytes) → Tail m trust None None note (past p) (loaded_as (with_lines m trust x.content ls) x.note) y → Tail m trust None (Some ls) note p x y
   lines_made p x y ls note few_rows few_lines keep long laid t =
       record {
         laid = laid ∙ ap (λ (ys : List ℕ). in_bytes 2 (head_word lines_code (length ls)) ++ (flat_map line_bytes ls ++ ys)) t.laid;
@@ -163,7 +163,7 @@ module _ (m : Meaning) (trust : ℕ) where
         noted = t.noted ∙ ap (λ (k : ℕ). put_note note k x.note) (past_ends p long);
       }
 
-  lines_then : (p : Piece) (x y v : Loaded) (d : Content) → AllByRecursion Byte p.bytes → length x.content.rows ≤ 128 → 2 ≤ length p.bytes → head_code p.bytes ≡ lines_code → LinesRead m trust x.content d (head_count p.bytes) (take (8 * head_count p.bytes) (drop 2 p.bytes)) → with_content x d ≡ Ok v → from_note m trust (past p) v ≡ Ok y → (lines : Option (List Line)) × (note : Option (List ℕ)) × Tail m trust None lines note p x y
+  lines_then : (p : PartRead) (x y v : Loaded) (d : Content) → AllByRecursion Byte p.bytes → length x.content.rows ≤ 128 → 2 ≤ length p.bytes → head_code p.bytes ≡ lines_code → LinesRead m trust x.content d (head_count p.bytes) (take (8 * head_count p.bytes) (drop 2 p.bytes)) → with_content x d ≡ Ok v → from_note m trust (past p) v ≡ Ok y → (lines : Option (List Line)) × (note : Option (List ℕ)) × Tail m trust None lines note p x y
   lines_then p x y v d e few_rows long is r made h =
       let ls = r.lines in
       let n = head_count p.bytes in
@@ -176,16 +176,16 @@ module _ (m : Meaning) (trust : ℕ) where
       let rest = ap (λ (ys : List ℕ). in_bytes 2 (head_word lines_code (length ls)) ++ (flat_map line_bytes ls ++ ys)) (sym (past_records m trust p x lines_code is refl)) in
       (Some ls, t.0, lines_made p x y ls t.0 few_rows r.few r.keep long (laid ∙ rest) t.1)
 
-  lines_left : (p : Piece) (x y : Loaded) → AllByRecursion Byte p.bytes → length x.content.rows ≤ 128 → length x.content.lines ≤ 128 → 2 ≤ length p.bytes → head_code p.bytes ≡ lines_code → go_on (section_added m trust (next_section p) x) (from_note m trust (past p)) ≡ Ok y → (lines : Option (List Line)) × (note : Option (List ℕ)) × Tail m trust None lines note p x y
+  lines_left : (p : PartRead) (x y : Loaded) → AllByRecursion Byte p.bytes → length x.content.rows ≤ 128 → length x.content.lines ≤ 128 → 2 ≤ length p.bytes → head_code p.bytes ≡ lines_code → go_on (section_added m trust (next_section p) x) (from_note m trust (past p)) ≡ Ok y → (lines : Option (List Line)) × (note : Option (List ℕ)) × Tail m trust None lines note p x y
   lines_left p x y e few_rows few_lines long is h =
       let n = head_count p.bytes in
       let body = take (8 * n) (drop 2 p.bytes) in
       let g = went_on (section_added m trust (next_section p) x) (from_note m trust (past p)) y h in
-      let k = went_on (records (line_record m trust) n body (p.place + 2) x.content) (with_content x) g.value (sym (lines_section m trust p x is) ∙ g.answered) in
+      let k = went_on (records_added (line_record m trust) n body (p.place + 2) x.content) (with_content x) g.value (sym (lines_section m trust p x is) ∙ g.answered) in
       let r = lines_back m trust n body (p.place + 2) x.content k.value (each_take (8 * n) (drop 2 p.bytes) (each_drop 2 p.bytes e)) few_lines k.answered in
       lines_then p x y g.value k.value e few_rows long is r k.then g.then
 
-  pub lines_tail : (p : Piece) (x y : Loaded) → AllByRecursion Byte p.bytes → length x.content.rows ≤ 128 → length x.content.lines ≤ 128 → from_lines m trust p x ≡ Ok y → (lines : Option (List Line)) × (note : Option (List ℕ)) × Tail m trust None lines note p x y
+  pub lines_tail : (p : PartRead) (x y : Loaded) → AllByRecursion Byte p.bytes → length x.content.rows ≤ 128 → length x.content.lines ≤ 128 → from_lines m trust p x ≡ Ok y → (lines : Option (List Line)) × (note : Option (List ℕ)) × Tail m trust None lines note p x y
   lines_tail p x y e few_rows few_lines h =
       elim (next_or_not lines_code p.bytes) [
         | inl next ↦ lines_left p x y e few_rows few_lines next.0 next.1 (sym (takes_lines m trust p x next.0 next.1) ∙ h)
@@ -193,7 +193,7 @@ module _ (m : Meaning) (trust : ℕ) where
       ]
 
   -- rows are left, and what follows them
-  rows_made : (p : Piece) (x y : Loaded) (rs : List Row) (lines : Option (List Line)) (note : Option (List ℕ)) → length x.content.rows + length rs ≤ 128 → AllByRecursion (RowLimits m x.content.modes) rs → 2 ≤ length p.bytes → p.bytes ≡ in_bytes 2 (head_word rows_code (length rs)) ++ (flat_map row_bytes rs ++ (past p).bytes) → Tail m trust None lines note (past p) (loaded_as (with_rows x.content rs) x.note) y → Tail m trust (Some rs) lines note p x y
+  rows_made : (p : PartRead) (x y : Loaded) (rs : List Row) (lines : Option (List Line)) (note : Option (List ℕ)) → length x.content.rows + length rs ≤ 128 → AllByRecursion (RowLimits m x.content.modes) rs → 2 ≤ length p.bytes → p.bytes ≡ in_bytes 2 (head_word rows_code (length rs)) ++ (flat_map row_bytes rs ++ (past p).bytes) → Tail m trust None lines note (past p) (loaded_as (with_rows x.content rs) x.note) y → Tail m trust (Some rs) lines note p x y
   rows_made p x y rs lines note few_rows keep long laid t =
       record {
         laid = laid ∙ ap (λ (ys : List ℕ). in_bytes 2 (head_word rows_code (length rs)) ++ (flat_map row_bytes rs ++ ys)) t.laid;
@@ -207,7 +207,7 @@ module _ (m : Meaning) (trust : ℕ) where
         noted = t.noted ∙ ap (λ (k : ℕ). put_note note k x.note) (past_ends p long);
       }
 
-  rows_then : (p : Piece) (x y v : Loaded) (d : Content) → AllByRecursion Byte p.bytes → length x.content.lines ≤ 128 → 2 ≤ length p.bytes → head_code p.bytes ≡ rows_code → RowsRead m x.content d (head_count p.bytes) (take (8 * head_count p.bytes) (drop 2 p.bytes)) → with_content x d ≡ Ok v → from_lines m trust (past p) v ≡ Ok y → (rows : Option (List Row)) × (lines : Option (List Line)) × (note : Option (List ℕ)) × Tail m trust rows lines note p x y
+  rows_then : (p : PartRead) (x y v : Loaded) (d : Content) → AllByRecursion Byte p.bytes → length x.content.lines ≤ 128 → 2 ≤ length p.bytes → head_code p.bytes ≡ rows_code → RowsRead m x.content d (head_count p.bytes) (take (8 * head_count p.bytes) (drop 2 p.bytes)) → with_content x d ≡ Ok v → from_lines m trust (past p) v ≡ Ok y → (rows : Option (List Row)) × (lines : Option (List Line)) × (note : Option (List ℕ)) × Tail m trust rows lines note p x y
   rows_then p x y v d e few_lines long is r made h =
       let rs = r.rows in
       let n = head_count p.bytes in
@@ -220,16 +220,16 @@ module _ (m : Meaning) (trust : ℕ) where
       let rest = ap (λ (ys : List ℕ). in_bytes 2 (head_word rows_code (length rs)) ++ (flat_map row_bytes rs ++ ys)) (sym (past_records m trust p x rows_code is refl)) in
       (Some rs, t.0, t.1, rows_made p x y rs t.0 t.1 r.few r.keep long (laid ∙ rest) t.2)
 
-  rows_left : (p : Piece) (x y : Loaded) → AllByRecursion Byte p.bytes → length x.content.rows ≤ 128 → length x.content.lines ≤ 128 → 2 ≤ length p.bytes → head_code p.bytes ≡ rows_code → go_on (section_added m trust (next_section p) x) (from_lines m trust (past p)) ≡ Ok y → (rows : Option (List Row)) × (lines : Option (List Line)) × (note : Option (List ℕ)) × Tail m trust rows lines note p x y
+  rows_left : (p : PartRead) (x y : Loaded) → AllByRecursion Byte p.bytes → length x.content.rows ≤ 128 → length x.content.lines ≤ 128 → 2 ≤ length p.bytes → head_code p.bytes ≡ rows_code → go_on (section_added m trust (next_section p) x) (from_lines m trust (past p)) ≡ Ok y → (rows : Option (List Row)) × (lines : Option (List Line)) × (note : Option (List ℕ)) × Tail m trust rows lines note p x y
   rows_left p x y e few_rows few_lines long is h =
       let n = head_count p.bytes in
       let body = take (8 * n) (drop 2 p.bytes) in
       let g = went_on (section_added m trust (next_section p) x) (from_lines m trust (past p)) y h in
-      let k = went_on (records (row_record m) n body (p.place + 2) x.content) (with_content x) g.value (sym (rows_section m trust p x is) ∙ g.answered) in
+      let k = went_on (records_added (row_record m) n body (p.place + 2) x.content) (with_content x) g.value (sym (rows_section m trust p x is) ∙ g.answered) in
       let r = rows_back m trust n body (p.place + 2) x.content k.value (each_take (8 * n) (drop 2 p.bytes) (each_drop 2 p.bytes e)) few_rows k.answered in
       rows_then p x y g.value k.value e few_lines long is r k.then g.then
 
-  pub rows_tail : (p : Piece) (x y : Loaded) → AllByRecursion Byte p.bytes → length x.content.rows ≤ 128 → length x.content.lines ≤ 128 → from_rows m trust p x ≡ Ok y → (rows : Option (List Row)) × (lines : Option (List Line)) × (note : Option (List ℕ)) × Tail m trust rows lines note p x y
+  pub rows_tail : (p : PartRead) (x y : Loaded) → AllByRecursion Byte p.bytes → length x.content.rows ≤ 128 → length x.content.lines ≤ 128 → from_rows m trust p x ≡ Ok y → (rows : Option (List Row)) × (lines : Option (List Line)) × (note : Option (List ℕ)) × Tail m trust rows lines note p x y
   rows_tail p x y e few_rows few_lines h =
       elim (next_or_not rows_code p.bytes) [
         | inl next ↦ rows_left p x y e few_rows few_lines next.0 next.1 (sym (takes_rows m trust p x next.0 next.1) ∙ h)
@@ -244,10 +244,10 @@ not_next k code f (Some xs) bs rest small other few laid h =
     inr (λ e. other (sym a.its_code ∙ e))
 
 -- From the layout to what is accepted.
-same_loaded : (y : Loaded) (c : Content) (n : Piece) → y.content ≡ c → y.note ≡ n → ◌≡◌ {A = Result Loaded LoadFault} (Ok (loaded_as c n)) (Ok y)
+same_loaded : (y : Loaded) (c : Content) (n : PartRead) → y.content ≡ c → y.note ≡ n → ◌≡◌ {A = Result Loaded LoadFault} (Ok (loaded_as c n)) (Ok y)
 same_loaded y c n h k = ap Ok (λ i. loaded_as (sym h i) (sym k i))
 
-module _ (m : Meaning) (trust : ℕ) (p : Piece) (x : Loaded) where
+module _ (m : Meaning) (trust : ℕ) (p : PartRead) (x : Loaded) where
   -- a section of each code that is whole
   pub adds_note : (bs rest : List ℕ) → HeadAt p.bytes note_code (length bs) (length bs) bs rest → section_added m trust (next_section p) x ≡ Ok (loaded_as x.content (record { bytes = bs; place = p.place + 2 }))
   adds_note bs rest a =
@@ -274,7 +274,7 @@ module _ (m : Meaning) (trust : ℕ) (p : Piece) (x : Loaded) where
   records_rest code n body rest other a = past_records m trust p x code a.its_code other ∙ (ap (λ (k : ℕ). drop (8 * k) (drop 2 p.bytes)) a.its_count ∙ a.its_rest)
 
 module _ (m : Meaning) (trust : ℕ) where
-  pub note_accepted : (note : Option (List ℕ)) (p : Piece) (x y : Loaded) → Tail m trust None None note p x y → from_note m trust p x ≡ Ok y
+  pub note_accepted : (note : Option (List ℕ)) (p : PartRead) (x y : Loaded) → Tail m trust None None note p x y → from_note m trust p x ≡ Ok y
   note_accepted None p x y t =
       let none = ap length t.laid in
       passes_note m trust p x (inl (omega (arith, none))) ∙ (ends p x none ∙ same_loaded y _ _ t.content t.noted)
@@ -288,7 +288,7 @@ module _ (m : Meaning) (trust : ℕ) where
       ∙ (ap (λ (o : Result Loaded LoadFault). go_on o (at_end (past p))) (adds_note m trust p x bs [] a)
       ∙ (last ∙ same_loaded y _ _ t.content (t.noted ∙ (λ i. record { bytes = bs; place = place i }))))
 
-  pub lines_accepted : (lines : Option (List Line)) (note : Option (List ℕ)) (p : Piece) (x y : Loaded) → Tail m trust None lines note p x y → from_lines m trust p x ≡ Ok y
+  pub lines_accepted : (lines : Option (List Line)) (note : Option (List ℕ)) (p : PartRead) (x y : Loaded) → Tail m trust None lines note p x y → from_lines m trust p x ≡ Ok y
   lines_accepted None note p x y t =
       let other = not_next lines_code note_code one_byte note p.bytes [] (omega arith) (λ e. omega arith) t.note_fits (t.laid ∙ sym (append-nil (section_written note_code one_byte note))) (λ _. inl (omega arith)) in
       passes_lines m trust p x other ∙ note_accepted note p x y t
@@ -312,7 +312,7 @@ module _ (m : Meaning) (trust : ℕ) where
       ∙ (ap (λ (o : Result Loaded LoadFault). go_on o (from_note m trust (past p))) (adds_lines m trust p x ls rest t.few_lines t.lines_keep a)
       ∙ note_accepted note (past p) (loaded_as after x.note) y on)
 
-  pub rows_accepted : (rows : Option (List Row)) (lines : Option (List Line)) (note : Option (List ℕ)) (p : Piece) (x y : Loaded) → Tail m trust rows lines note p x y → from_rows m trust p x ≡ Ok y
+  pub rows_accepted : (rows : Option (List Row)) (lines : Option (List Line)) (note : Option (List ℕ)) (p : PartRead) (x y : Loaded) → Tail m trust rows lines note p x y → from_rows m trust p x ≡ Ok y
   rows_accepted None lines note p x y t =
       let last = not_next rows_code note_code one_byte note (section_written note_code one_byte note) [] (omega arith) (λ e. omega arith) t.note_fits (sym (append-nil (section_written note_code one_byte note))) (λ _. inl (omega arith)) in
       let other = not_next rows_code lines_code line_bytes lines p.bytes (section_written note_code one_byte note) (omega arith) (λ e. omega arith) (omega (arith, t.few_lines)) t.laid (λ _. last) in

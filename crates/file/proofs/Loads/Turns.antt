@@ -7,24 +7,24 @@ use Rattle.file.specs.declared.refusal.LoadFault.{LoadFault}
 use Rattle.file.specs.declared.reader.Stage.{Stage}
 use Rattle.file.specs.declared.reader.Stage.TheVariants as stage
 use Rattle.file.specs.Fields.{head_code}
-use Rattle.file.specs.Parts.{Piece}
-use Rattle.file.specs.Sections.{Found, next_section, past}
+use Rattle.file.specs.Parts.{PartRead}
+use Rattle.file.specs.Sections.{SectionRead, next_section, past}
 use Rattle.file.specs.Readers.{ReadSoFar, next_answer, next_after, may_come, following}
 use Rattle.file.specs.Records.{go_on}
 use Rattle.file.specs.Load.{Loaded, section_added, comes, in_turn, at_end, from_note, from_lines, from_rows}
 use Rattle.file.specs.Fillings.{from_stage}
 
 -- what an answered section says
-pub record Came (r : ReadSoFar) (f : Found) : Type 0 where
+pub record Came (r : ReadSoFar) (f : SectionRead) : Type 0 where
   pub long : 2 ≤ length r.left.bytes
   pub ordered : may_come r.stage (head_code r.left.bytes) ≡ true
   pub is : f ≡ next_section r.left
   pub on : next_after r ≡ record { left = past r.left; stage = following (head_code r.left.bytes) }
 
-pub came : (r : ReadSoFar) (f : Found) → next_answer r ≡ Ok (Some f) → Came r f
+pub came : (r : ReadSoFar) (f : SectionRead) → next_answer r ≡ Ok (Some f) → Came r f
 came r f e = record { long = grind (arith, nat_tests); ordered = grind (arith, nat_tests); is = grind (arith, nat_tests); on = grind (arith, nat_tests) }
 
-pub came_less : (r : ReadSoFar) (f : Found) → Came r f → length (next_after r).left.bytes < length r.left.bytes
+pub came_less : (r : ReadSoFar) (f : SectionRead) → Came r f → length (next_after r).left.bytes < length r.left.bytes
 came_less r f h = let l = h.long in rw h.on (simp length-drop (omega arith))
 
 -- which codes may come
@@ -41,15 +41,15 @@ end_codes : (k : ℕ) → may_come stage.End k ≡ true → ⊥
 end_codes k h = grind (arith, nat_tests)
 
 -- no section comes next, or none that may
-Stuck : Stage → Piece → Type 0
+Stuck : Stage → PartRead → Type 0
 Stuck s p = (length p.bytes < 2) ⊎ (may_come s (head_code p.bytes) ≡ false)
 
-module _ (m : Meaning) (trust : ℕ) (p : Piece) (x : Loaded) where
+module _ (m : Meaning) (trust : ℕ) (p : PartRead) (x : Loaded) where
   -- the section of that code comes next, or not
-  turn_taken : (code : ℕ) (next : Piece → Loaded → Result Loaded LoadFault) → 2 ≤ length p.bytes → head_code p.bytes ≡ code → in_turn m trust code next p x ≡ go_on (section_added m trust (next_section p) x) (next (past p))
+  turn_taken : (code : ℕ) (next : PartRead → Loaded → Result Loaded LoadFault) → 2 ≤ length p.bytes → head_code p.bytes ≡ code → in_turn m trust code next p x ≡ go_on (section_added m trust (next_section p) x) (next (past p))
   turn_taken code next long e = let t : comes code p ≡ true = grind (arith, nat_tests) in rw t
 
-  turn_passed : (code : ℕ) (next : Piece → Loaded → Result Loaded LoadFault) → (length p.bytes < 2) ⊎ (head_code p.bytes ≡ code → ⊥) → in_turn m trust code next p x ≡ next p x
+  turn_passed : (code : ℕ) (next : PartRead → Loaded → Result Loaded LoadFault) → (length p.bytes < 2) ⊎ (head_code p.bytes ≡ code → ⊥) → in_turn m trust code next p x ≡ next p x
   turn_passed code next h = let t : comes code p ≡ false = grind (arith, nat_tests) in rw t
 
   -- in each stage the sections that may not come are passed over
@@ -113,5 +113,5 @@ module _ (m : Meaning) (trust : ℕ) (r : ReadSoFar) (x : Loaded) where
   unfolding at_end Stuck
   reader_refused f e = let h : Stuck r.stage r.left = grind (arith, nat_tests) in stage_stuck m trust r.left x r.stage h ∙ grind (arith, nat_tests)
 
-  pub reader_more : (f : Found) → next_answer r ≡ Ok (Some f) → from_stage m trust r.stage r.left x ≡ go_on (section_added m trust f x) (from_stage m trust (next_after r).stage (next_after r).left)
+  pub reader_more : (f : SectionRead) → next_answer r ≡ Ok (Some f) → from_stage m trust r.stage r.left x ≡ go_on (section_added m trust f x) (from_stage m trust (next_after r).stage (next_after r).left)
   reader_more f e = let h = came r f e in rw (h.on, h.is) (taken m trust r.left x r.stage _ h.long refl h.ordered)

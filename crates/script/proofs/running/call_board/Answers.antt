@@ -2,7 +2,7 @@ use Rattle.std.proofs.Common.{ℕ, List, ◌++◌, length, sym, ap, ◌∙◌}
 use Rattle.std.specs.Option.{option_map}
 use Rattle.file.specs.Answers.{step_answer, step_buffer}
 use Rattle.file.specs.Histories.{state_of, records_of, records_defined}
-use Rattle.script.specs.Calls.{command_of, on_board}
+use Rattle.script.specs.Commands.{command_of, on_board}
 use Rattle.script.specs.Sessions.{without_address}
 use Rattle.script.specs.Telling.{told_text}
 use Rattle.script.specs.Printing.{buffer_of}

@@ -1,6 +1,6 @@
 use Rattle.std.proofs.Common.{ℕ, None, subst}
 use Rattle.board.specs.Held.{held}
-use Rattle.board.specs.Winning.{Finds, CallAt}
+use Rattle.board.specs.Winning.{Finds, IsCallAt}
 use Rattle.board.proofs.Least.Knowing.{ready_of}
 use Rattle.board.proofs.Least.Calling.{other_mode, same_moment, none_while_more, call_none_by, call_wins_by}
 use Rattle.board.proofs.settling.Known.call_by.Goals as goal
@@ -8,7 +8,7 @@ use Rattle.board.proofs.settling.Known.call_by.Goals.{then-place-a+in_default, e
 
 pub loop-n-preserved : goal.loop-n-preserved
 loop-n-preserved g c = none_while_more g.met.K.Kind.lawful (ready_of c.args.self.now) c.args.goal c.requires.on c.args.o c.args.a c.requires.rows.opening c.requires.rows.opens c.args.w c.args.tight.now c.loop-n.n c.loop-n.invariant (λ t h e. elim c.if-place-a.branch [
-  | then-place-a+in_default w ↦ subst (λ (n : ℕ). Finds g.K.Kind.meaning (held c.args.self.now.tables.now) c.args.self.now.log.now c.args.goal (CallAt c.args.o c.args.w n) None) (same_moment g.met.K.Kind.lawful (ready_of c.args.self.now) c.args.goal c.requires.on c.args.o c.args.a c.requires.rows.opening c.requires.rows.opens c.args.tight.now c.loop-n.n c.place-place.result c.place-place.ensures.number c.place-place.ensures.moment t h e) w.in_default.ensures
+  | then-place-a+in_default w ↦ subst (λ (n : ℕ). Finds g.K.Kind.meaning (held c.args.self.now.tables.now) c.args.self.now.log.now c.args.goal (IsCallAt c.args.o c.args.w n) None) (same_moment g.met.K.Kind.lawful (ready_of c.args.self.now) c.args.goal c.requires.on c.args.o c.args.a c.requires.rows.opening c.requires.rows.opens c.args.tight.now c.loop-n.n c.place-place.result c.place-place.ensures.number c.place-place.ensures.moment t h e) w.in_default.ensures
   | else-place-a w ↦ absurd (other_mode g.met.K.Kind.lawful (ready_of c.args.self.now) c.args.goal c.requires.on c.args.o c.args.a c.requires.rows.opening c.requires.rows.opens c.args.tight.now c.loop-n.n c.place-place.result c.place-place.ensures.number c.place-place.ensures.moment w.if-place-a.false t h e)
 ])
 

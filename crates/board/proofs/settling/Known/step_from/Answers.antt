@@ -18,8 +18,8 @@ returns-in_default-arrival g c = no_arrival g.met.K.Kind.lawful (ready_of c.args
 pub returns-in_default-effect : goal.returns-in_default-effect
 returns-in_default-effect g c = no_quiet g.met.K.Kind.lawful (ready_of c.args.self.now) c.args.goal c.requires.on c.args.v c.args.place c.requires.place c.requires.starts c.in-Some-arrival.h (sym c.arrival.ensures ∙ c.in-Some-arrival.is) c.in_default-effect.not-Quiet
 
-pub returns-then-not-same_place : goal.returns-then-not-same_place
-returns-then-not-same_place g c = no_end g.met.K.Kind.lawful (ready_of c.args.self.now) c.args.goal c.requires.on c.args.v c.args.place c.requires.place c.requires.starts c.in-Some-arrival.h (sym c.arrival.ensures ∙ c.in-Some-arrival.is) (same_false c.in-Some-arrival.h.to c.args.goal.to (search rules))
+pub returns-then-ne : goal.returns-then-ne
+returns-then-ne g c = no_end g.met.K.Kind.lawful (ready_of c.args.self.now) c.args.goal c.requires.on c.args.v c.args.place c.requires.place c.requires.starts c.in-Some-arrival.h (sym c.arrival.ensures ∙ c.in-Some-arrival.is) (same_false c.in-Some-arrival.h.to c.args.goal.to (search rules))
 
 pub offset_bounds-self-i : goal.offset_bounds-self-i
 offset_bounds-self-i g c =

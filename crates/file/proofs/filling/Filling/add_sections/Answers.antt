@@ -1,6 +1,6 @@
 use Rattle.std.proofs.Common.{◌≡◌, length, Some, None, Ok, sym, ap, ◌∙◌, rules}
 use Rattle.std.proofs.lemmas.Result.{err_from_is_err_and}
-use Rattle.file.specs.Readers.{ReadSoFar, read_so_far, found_section, next_answer, next_after}
+use Rattle.file.specs.Readers.{ReadSoFar, read_so_far, section_read, next_answer, next_after}
 use Rattle.file.specs.Records.{go_on}
 use Rattle.file.specs.Load.{section_added}
 use Rattle.file.specs.Fillings.{so_far, from_stage}
@@ -10,7 +10,7 @@ use Rattle.file.proofs.filling.Filling.add_sections.Goals as goal
 use Rattle.file.proofs.filling.Filling.add_sections.Goals.{In-Some}
 
 -- what the reader answered in a turn
-at_some : (g : given.Over) (c : In-Some g) → next_answer (read_so_far c.loop-section.reader) ≡ Ok (Some (found_section c.in-Some.section))
+at_some : (g : given.Over) (c : In-Some g) → next_answer (read_so_far c.loop-section.reader) ≡ Ok (Some (section_read c.in-Some.section))
 at_some g c = rw c.in-Some.is at (sym c.in_ok-section.ensures.answer)
 
 pub returns-in_err-section-clause-after : goal.returns-in_err-section-clause-after
@@ -26,8 +26,8 @@ loop-section-smaller g c =
     rw e (came_less r _ (came r _ (at_some g (goal.at.loop-section-smaller g c).In-Some)))
 
 -- what the turn makes of what is left
-turn : (g : given.Over) (c : In-Some g) → from_stage g.K.Kind.meaning c.loop-section.self.trust c.loop-section.reader.stage (read_so_far c.loop-section.reader).left (so_far c.loop-section.self) ≡ go_on (section_added g.K.Kind.meaning c.loop-section.self.trust (found_section c.in-Some.section) (so_far c.loop-section.self)) (from_stage g.K.Kind.meaning c.loop-section.self.trust (next_after (read_so_far c.loop-section.reader)).stage (next_after (read_so_far c.loop-section.reader)).left)
-turn g c = reader_more g.K.Kind.meaning c.loop-section.self.trust (read_so_far c.loop-section.reader) (so_far c.loop-section.self) (found_section c.in-Some.section) (at_some g c)
+turn : (g : given.Over) (c : In-Some g) → from_stage g.K.Kind.meaning c.loop-section.self.trust c.loop-section.reader.stage (read_so_far c.loop-section.reader).left (so_far c.loop-section.self) ≡ go_on (section_added g.K.Kind.meaning c.loop-section.self.trust (section_read c.in-Some.section) (so_far c.loop-section.self)) (from_stage g.K.Kind.meaning c.loop-section.self.trust (next_after (read_so_far c.loop-section.reader)).stage (next_after (read_so_far c.loop-section.reader)).left)
+turn g c = reader_more g.K.Kind.meaning c.loop-section.self.trust (read_so_far c.loop-section.reader) (so_far c.loop-section.self) (section_read c.in-Some.section) (at_some g c)
 
 pub loop-section-preserved : goal.loop-section-preserved
 loop-section-preserved g c =

@@ -1,6 +1,6 @@
 use Rattle.std.proofs.Common.{◌≡◌, ℕ, ◌<◌, get_or, refl, arith, rules}
 use Rattle.board.specs.Held.{draft_content, draft_sound}
-use Rattle.file.specs.Records.{row_added, line_added, records}
+use Rattle.file.specs.Records.{row_added, line_added, records_added}
 use Rattle.file.specs.Load.{at_end, from_note, from_lines, from_rows, sized, load_answer, load_after}
 use Rattle.file.specs.Parts.{answered}
 use Rattle.file.specs.Examples.{LayoutExamples}
@@ -10,7 +10,7 @@ use Rattle.file.proofs.Loads.Longest.{no_longer}
 use Rattle.file.proofs.loading.DraftLoad.load.Goals as goal
 
 worked : LayoutExamples
-unfolding row_added line_added records at_end from_note from_lines from_rows sized
+unfolding row_added line_added records_added at_end from_note from_lines from_rows sized
 worked = record {
   header_written = refl;
   header_taken = refl;

@@ -6,7 +6,7 @@ use Rattle.board.specs.Minima.{PlainLink}
 use Rattle.board.proofs.Least.Plain.{worst_attained}
 use Rattle.board.proofs.Rounds.Starting.{empty_records}
 use Rattle.board.proofs.Least.Stating.{empty_state}
-use Rattle.board.proofs.settling.Settling.empty.Goals as goal
+use Rattle.board.proofs.settling.rounds.Settling.empty.Goals as goal
 
 pub add_links-requires-clause-ok : goal.add_links-requires-clause-ok
 add_links-requires-clause-ok g c = worst_attained g.K.Kind.meaning (PlainLink g.K.Kind.meaning (held c.args.tables.now)) 4096 c.worst.result c.worst.ensures

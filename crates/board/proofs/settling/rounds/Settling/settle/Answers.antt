@@ -8,7 +8,7 @@ use Rattle.board.proofs.Basics.Numbers.{number_in}
 use Rattle.board.proofs.Least.Links.{attained_cost_within}
 use Rattle.board.proofs.Rounds.Pushing.{room_here}
 use Rattle.board.proofs.Least.Stating.{extended, links_stay, waiting_stay, places_stay, linked_stays, state_more}
-use Rattle.board.proofs.settling.Settling.settle.Goals as goal
+use Rattle.board.proofs.settling.rounds.Settling.settle.Goals as goal
 
 pub push-requires-clause-room : goal.push-requires-clause-room
 push-requires-clause-room g c = room_here c.requires.state.ready c.pair.ensures c.requires.fresh c.requires.kept c.requires.refers c.length_of-moves.ensures

@@ -4,37 +4,37 @@ use Rattle.std.specs.Borrow.{Bor}
 use Rattle.costs.specs.declared.kind_name.KindName.{KindName}
 use Rattle.board.specs.declared.row.Row.{Row}
 use Rattle.board.specs.declared.row.Line.{Line}
-use Rattle.file.specs.declared.call.Call.{Call as BoardCall}
+use Rattle.file.specs.declared.call.Call.{Call}
 use Rattle.file.specs.declared.call.Call.TheVariants as board
-use Rattle.script.specs.declared.command.Command.{Command}
+use Rattle.script.specs.declared.command.Command.{Command as VecCommand}
 use Rattle.script.specs.declared.command.Command.TheVariants.{Kind, Size, AddRow, AddLine, RepriceRow, RepriceLine, ClearLines, Load, Settle, Reopen, Cost, Path, Between, Check}
 
 -- A call, with lists in place of the code's vectors.
-pub data Call : Type 0 where
+pub data Command : Type 0 where
   -- a new board of this kind
-  kind : KindName → Call
+  kind : KindName → Command
   -- how many modes and moments
-  size : ℕ → ℕ → Call
-  row : Row → Call
-  line : Line → Call
+  size : ℕ → ℕ → Command
+  row : Row → Command
+  line : Line → Command
   -- the row's or the line's number, and its cost
-  reprice_row : ℕ → ℕ → Call
-  reprice_line : ℕ → ℕ → Call
-  clear : Call
+  reprice_row : ℕ → ℕ → Command
+  reprice_line : ℕ → ℕ → Command
+  clear : Command
   -- a file's bytes
-  load : List ℕ → Call
-  settle : Call
-  reopen : Call
-  cost : Call
+  load : List ℕ → Command
+  settle : Command
+  reopen : Command
+  cost : Command
   -- the buffer's length
-  path : ℕ → Call
+  path : ℕ → Command
   -- the numbers of two places
-  between : ℕ → ℕ → Call
+  between : ℕ → ℕ → Command
   -- a list of packed moves
-  check : List ℕ → Call
+  check : List ℕ → Command
 
 -- the call that a command is
-abbrev pub command_of : Command → Call
+abbrev pub command_of : VecCommand → Command
 command_of (Kind k) = kind k
 command_of (Size m t) = size m t
 command_of (AddRow r) = row r
@@ -55,7 +55,7 @@ abbrev pub behind : {A : Type 0} → List A → Bor (List A)
 behind xs = record { ref_ptr = (0, 0); now = xs }
 
 -- the call on a board that a script's call makes; naming a kind makes none
-abbrev pub on_board : Call → Option BoardCall
+abbrev pub on_board : Command → Option Call
 on_board (kind k) = None
 on_board (size m t) = Some (board.Size m t)
 on_board (row r) = Some (board.AddRow r)

@@ -1,7 +1,7 @@
 use Rattle.std.proofs.Common.{suc, get_or, refl}
 use Rattle.board.specs.Settling.{round}
 use Rattle.board.proofs.Least.Rounding.{goal_on, goal_cost, goal_made, goal_fresh, goal_kept, round_is}
-use Rattle.board.proofs.settling.Settling.round.Goals as goal
+use Rattle.board.proofs.settling.rounds.Settling.round.Goals as goal
 
 pub winner-derivation-requires-clause-on : goal.winner-derivation-requires-clause-on
 winner-derivation-requires-clause-on g c = goal_on g.met.K.Kind.lawful c.requires.state c.args.pair c.requires.least (record { from = c.place.result; to = c.place-2.result; cost = get_or c.args.self.now.minima.waiting.costs c.args.pair 0 }) c.place.ensures.number c.place-2.ensures.number c.place.ensures.moment c.place-2.ensures.moment refl

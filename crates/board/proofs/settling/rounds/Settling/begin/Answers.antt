@@ -3,7 +3,7 @@ use Rattle.board.specs.Held.{held}
 use Rattle.board.specs.Settling.{begin, starts, places, diagonal}
 use Rattle.board.specs.Logged.{records}
 use Rattle.board.proofs.Rounds.Starting.{start_fresh}
-use Rattle.board.proofs.settling.Settling.begin.Goals as goal
+use Rattle.board.proofs.settling.rounds.Settling.begin.Goals as goal
 
 pub settle-requires-clause-fresh : goal.settle-requires-clause-fresh
 settle-requires-clause-fresh g c = start_fresh c.loop-mode.mode c.loop-moment.moment c.loop-moment.invariant.0.ready c.loop-mode-test.true c.loop-moment-test.true c.loop-moment.invariant.1
