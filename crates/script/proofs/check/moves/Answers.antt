@@ -8,8 +8,8 @@ returns-in_err-run c =
     let stop = run_stop c.args.words.now c.loop-word.word-index c.loop-word-test.true _ (vec_items c.loop-word.list) (sym c.read_run.ensures ∙ c.in_err-run.ensures.ok_part) in
     search (rules, sym c.loop-word.invariant.1 ∙ stop)
 
-pub returns-then-len-gt-LONGEST : goal.returns-then-len-gt-LONGEST
-returns-then-len-gt-LONGEST c =
+pub returns-then-len-gt-LONGEST_LIST : goal.returns-then-len-gt-LONGEST_LIST
+returns-then-len-gt-LONGEST_LIST c =
     let run = c.in_ok-run.run' in
     sym (run_too_long c.args.words.now c.loop-word.word-index c.loop-word-test.true _ (vec_items c.loop-word.list) run (sym c.read_run.ensures ∙ c.in_ok-run.ensures.ok_part) (omega (arith, c.loop-word.list.ok.0)))
     ∙ c.loop-word.invariant.1
@@ -21,7 +21,7 @@ loop-word-preserved c =
     let full = c.loop-word.list.ok.0 in
     let added = filled list (c.len.result + run.times) (vec_len c.loop-word.list) run.times run.number (omega (arith, c.len.ensures, full)) (omega (arith, full)) in
     let left = runs_of (drop (c.loop-word.word-index + 1) (map (λ x. x.now) c.args.words.now)) in (
-      omega (arith, c.in_ok-resize.ensures.len, c.if-len-gt-LONGEST.false),
+      omega (arith, c.in_ok-resize.ensures.len, c.if-len-gt-LONGEST_LIST.false),
       ap (λ l. not_too_long (after l left)) (c.in_ok-resize.ensures.items ∙ added)
           ∙ run_next c.args.words.now c.loop-word.word-index c.loop-word-test.true _ list run (sym c.read_run.ensures ∙ c.in_ok-run.ensures.ok_part)
           ∙ c.loop-word.invariant.1,
