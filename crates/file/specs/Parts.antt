@@ -1,5 +1,5 @@
 -- Parts of a file, and faults at their places.
-use Rattle.std.specs.Prelude.{ℕ, List, Ok, Err, Result}
+use Rattle.std.specs.Prelude.{ℕ, List, Result}
 use Rattle.std.specs.Result.{result_map_both}
 use Rattle.file.specs.declared.part.Part.{Part}
 use Rattle.file.specs.declared.refusal.FileRefusal.{FileRefusal}
