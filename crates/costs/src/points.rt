@@ -4,6 +4,7 @@ ghost use Rattle.costs.specs.Kinds.{points};
 ghost use Rattle.std.proofs.Common.{rules};
 
 use crate::kind::Kind;
+use values::ExactClone;
 
 // Every number is a cost; a sum above 4,294,967,294 is the worst. The only kind that trust scales.
 #[derive(Clone, Copy)]
@@ -41,4 +42,8 @@ impl Kind for Points {
     fn scaled() -> bool {
         true
     }
+}
+
+impl ExactClone for Points {
+    ghost clone_is_same = { Prim.search rules };
 }

@@ -4,6 +4,7 @@ ghost use Rattle.costs.specs.Kinds.{rank};
 ghost use Rattle.std.proofs.Common.{rules};
 
 use crate::kind::Kind;
+use values::ExactClone;
 
 // The upper 12 bits count breaches, the lower 20 bits are seconds. The costs are the worst and all numbers with at
 // most 4,094 breaches; joining adds both parts, breaches above 4,094 make the worst, and seconds stop at 1,048,575.
@@ -50,4 +51,8 @@ impl Kind for Rank {
     fn scaled() -> bool {
         false
     }
+}
+
+impl ExactClone for Rank {
+    ghost clone_is_same = { Prim.search rules };
 }

@@ -4,6 +4,7 @@ ghost use Rattle.costs.specs.Kinds.{severity};
 ghost use Rattle.std.proofs.Common.{rules};
 
 use crate::kind::Kind;
+use values::ExactClone;
 
 // Every number is a cost.
 #[derive(Clone, Copy)]
@@ -41,4 +42,8 @@ impl Kind for Severity {
     fn scaled() -> bool {
         false
     }
+}
+
+impl ExactClone for Severity {
+    ghost clone_is_same = { Prim.search rules };
 }

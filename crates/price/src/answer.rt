@@ -8,7 +8,7 @@ ghost use Rattle.price.specs.declared.answer.LineFault.TheVariants.{OutOfMemory}
 use costs::KindName;
 use std::alloc::{AllocError, AllocFailed};
 use std::fmt;
-use values::{ExactClone, write_plain};
+use values::{ExactClone, ExactEq, write_plain};
 
 // What the costs of a line make, joined.
 #[derive(Clone, Copy, Debug, PartialEq, Eq)]
@@ -60,6 +60,10 @@ impl<T: Drop> From<AllocFailed<T>> for LineFault<'_> {
 
 impl ExactClone for Total {
     ghost clone_is_same = { Prim.search rules };
+}
+
+impl ExactEq for Total {
+    ghost equal_is_same = { Prim.search rules };
 }
 
 impl ExactClone for LineFault<'_> {

@@ -6,3 +6,6 @@ mod text;
 
 pub use exact::{ExactClone, ExactEq};
 pub use text::write_plain;
+
+#[cfg(test)]
+mod tests;

@@ -40,7 +40,7 @@ logged_in rs zero x h = absurd h
 logged_in rs (suc n) x (inl e) = (n, omega arith, e)
 logged_in rs (suc n) x (inr h) = let r = logged_in rs n x h in (r.0, omega arith, r.2)
 
--- a record that refers to what stands keeps its record
+-- a record of the array that refers to what stands spells out the same, and stands for the same, when the log has one more
 pub spelled_stays : (x : Record) (log : List Record) (s : LogDerivation) → Refers (length log) s → spelled (x ∷ log) s ≡ spelled log s
 spelled_stays x log Start h = refl
 spelled_stays x log (Step i v) h = ap (λ (e : Record). e.moves ++ (v ∷ [])) (settled_before x log i h)
