@@ -29,9 +29,9 @@ CostIsCheapest m c log (Ok a) = CheapestReading m c log a.0 a.1
 CostIsCheapest m c log (Err e) = (e ≡ NoReading) × NoReadingBelowWorst m c
 
 -- What an answered number n and the buffer after it mean: the recorded reading is complete, no complete reading is
--- cheaper, it has n moves, for which there was room, they stand packed at the front of the buffer, whose rest is as it
--- was, and the check accepts them at the reading's cost.
-pub record WritesCheapest (m : Meaning) (c : Content) (log : List Record) (buffer : List ℕ) (n : ℕ) (after : List ℕ) : Type 0 where
+-- cheaper, it has n moves, for which there was room, they stand at the front of the buffer, each in its form, whose rest is as
+-- it was, and the check accepts them packed at the reading's cost.
+pub record WritesCheapest {A : Type 0} (form : Move → A) (m : Meaning) (c : Content) (log : List Record) (buffer : List A) (n : ℕ) (after : List A) : Type 0 where
   pub cost : ℕ
   pub reading : List Move
   pub recorded : RecordedReading m c log cost reading
@@ -40,24 +40,25 @@ pub record WritesCheapest (m : Meaning) (c : Content) (log : List Record) (buffe
   pub room : n ≤ length buffer
   pub few : n ≤ most_written
   pub number : n ≡ length reading
-  pub written : after ≡ map packed reading ++ drop n buffer
+  pub written : after ≡ map form reading ++ drop n buffer
   pub checked : check_answer m c (map packed reading) ≡ Ok cost
 
 -- the recorded reading is longer than the buffer or than 65,535 moves
-pub record ReadingTooLong (m : Meaning) (c : Content) (log : List Record) (buffer : List ℕ) : Type 0 where
+pub record ReadingTooLong {A : Type 0} (m : Meaning) (c : Content) (log : List Record) (buffer : List A) : Type 0 where
   pub cost : ℕ
   pub reading : List Move
   pub recorded : RecordedReading m c log cost reading
   pub longer : (length buffer < length reading) ⊎ (most_written < length reading)
 
--- why path is declined
-abbrev pub PathDeclined : Meaning → Content → List Record → List ℕ → Refusal → Type 0
-PathDeclined m c log buffer e = ((e ≡ NoReading) × NoReadingBelowWorst m c) ⊎ ((e ≡ TooLong) × ReadingTooLong m c log buffer)
+-- why writing the reading is declined
+abbrev pub WritingDeclined : {A : Type 0} → Meaning → Content → List Record → List A → Refusal → Type 0
+WritingDeclined m c log buffer e = ((e ≡ NoReading) × NoReadingBelowWorst m c) ⊎ ((e ≡ TooLong) × ReadingTooLong m c log buffer)
 
--- what path's answer and the buffer after it mean: the cheapest complete reading is written, or the buffer is as it was
-abbrev pub PathWritesCheapest : Meaning → Content → List Record → List ℕ → Result ℕ Refusal → List ℕ → Type 0
-PathWritesCheapest m c log buffer (Ok n) after = WritesCheapest m c log buffer n after
-PathWritesCheapest m c log buffer (Err e) after = PathDeclined m c log buffer e × (after ≡ buffer)
+-- what an answer and the buffer after it mean: the cheapest complete reading is written, each move in this form, or the buffer
+-- is as it was
+abbrev pub WritesCheapestReading : {A : Type 0} → (Move → A) → Meaning → Content → List Record → List A → Result ℕ Refusal → List A → Type 0
+WritesCheapestReading form m c log buffer (Ok n) after = WritesCheapest form m c log buffer n after
+WritesCheapestReading form m c log buffer (Err e) after = WritingDeclined m c log buffer e × (after ≡ buffer)
 
 -- the places that the two numbers stand for
 pub record Pair (c : Content) (s q : ℕ) : Type 0 where

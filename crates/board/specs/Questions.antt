@@ -2,6 +2,7 @@
 use Rattle.std.specs.Prelude.{ℕ, ◌*◌, min, Bool, cond, ◌&&◌, ◌||◌, List, ◌++◌, map, length, drop, Some, None, Ok, Err, Option, Result, nat_le}
 use Rattle.costs.specs.Meaning.{Meaning}
 use Rattle.board.specs.Bounds.{many_moves, most_written}
+use Rattle.board.specs.declared.moves.Move.{Move}
 use Rattle.board.specs.declared.refusal.Refusal.{Refusal}
 use Rattle.board.specs.declared.refusal.Refusal.TheVariants.{NoReading, TooLong, PlaceOut, Unsettled}
 use Rattle.board.specs.Content.{Content}
@@ -29,24 +30,32 @@ abbrev pub cost_answer : Meaning → Content → List Record → Result (ℕ × 
 cost_answer m c log = cost_told (recorded_reading m c log)
 
 -- whether the reading's moves are no more than the buffer holds, and no more than 65,535
-abbrev pub fits : Reading → List ℕ → Bool
+abbrev pub fits : {A : Type 0} → Reading → List A → Bool
 fits f buffer = nat_le (length f.moves) (length buffer) && nat_le (length f.moves) most_written
 
--- what path answers: how many moves the recorded reading has, if it fits
-abbrev pub path_told : Option Reading → List ℕ → Result ℕ Refusal
-path_told None buffer = Err NoReading
-path_told (Some f) buffer = cond (fits f buffer) (Ok (length f.moves)) (Err TooLong)
+-- how many moves a reading has, if it fits
+abbrev pub written_told : {A : Type 0} → Option Reading → List A → Result ℕ Refusal
+written_told None buffer = Err NoReading
+written_told (Some f) buffer = cond (fits f buffer) (Ok (length f.moves)) (Err TooLong)
 
--- what path makes of the buffer: the reading's moves in order, packed, and then what stood there
-abbrev pub path_written : Option Reading → List ℕ → List ℕ
-path_written None buffer = buffer
-path_written (Some f) buffer = cond (fits f buffer) (map packed f.moves ++ drop (length f.moves) buffer) buffer
+-- the buffer with a reading's moves in front, in order and each in a form, and then what stood there; if it fits
+abbrev pub moves_written : {A : Type 0} → (Move → A) → Option Reading → List A → List A
+moves_written form None buffer = buffer
+moves_written form (Some f) buffer = cond (fits f buffer) (map form f.moves ++ drop (length f.moves) buffer) buffer
 
--- Path: writes the recorded reading's moves in order to the front of the buffer and answers how many, unless they are
--- more than the buffer holds or than 65,535.
-abbrev pub path_answer : Meaning → Content → List Record → List ℕ → Result ℕ Refusal
-path_answer m c log buffer = path_told (recorded_reading m c log) buffer
+-- Path and moves: each writes the recorded reading's moves in order to the front of the buffer and answers how many, unless
+-- they are more than the buffer holds or than 65,535.
+abbrev pub path_answer : {A : Type 0} → Meaning → Content → List Record → List A → Result ℕ Refusal
+path_answer m c log buffer = written_told (recorded_reading m c log) buffer
 
--- the buffer after path
+-- the buffer with the recorded reading's moves, each in a form
+abbrev pub reading_after : {A : Type 0} → (Move → A) → Meaning → Content → List Record → List A → List A
+reading_after form m c log buffer = moves_written form (recorded_reading m c log) buffer
+
+-- the buffer after path: the moves stand there packed
 abbrev pub path_after : Meaning → Content → List Record → List ℕ → List ℕ
-path_after m c log buffer = path_written (recorded_reading m c log) buffer
+path_after m c log buffer = reading_after packed m c log buffer
+
+-- the buffer after moves: they stand there themselves
+abbrev pub moves_after : Meaning → Content → List Record → List Move → List Move
+moves_after m c log buffer = reading_after (λ v. v) m c log buffer

@@ -12,7 +12,7 @@ use Rattle.board.specs.Ease.{Eased, CallsEase}
 use Rattle.board.specs.Packing.{packed}
 use Rattle.board.specs.Settling.{RecordedReading, HasNoReading, AnswersCost}
 use Rattle.board.specs.Computing.{Reading, recorded_reading, settled_log}
-use Rattle.board.specs.Questions.{cost_told, path_told, path_written}
+use Rattle.board.specs.Questions.{cost_told, written_told, moves_written}
 use Rattle.board.specs.Promises.{CallsKeepEaseAndSettle, RecordedIsCheapest, Computed, NoReadingBelowWorst}
 use Rattle.file.specs.declared.call.Call.{Call}
 use Rattle.file.specs.declared.call.Call.TheVariants as call
@@ -50,8 +50,8 @@ module _ {m : Meaning} (laws : Lawful m) (promises : CallsKeepEaseAndSettle) whe
     writes f buffer false true h k = promise.declined (inl (leb-false _ _ h))
     writes f buffer false false h k = promise.declined (inl (leb-false _ _ h))
 
-    written_so : (f : Reading) (buffer : List ℕ) → recorded_reading m c (settled_log m c) ≡ Some f → Writes f.moves buffer (path_told (recorded_reading m c (settled_log m c)) buffer) (path_written (recorded_reading m c (settled_log m c)) buffer)
-    written_so f buffer e = subst (λ (o : Option Reading). Writes f.moves buffer (path_told o buffer) (path_written o buffer)) (sym e) (writes f buffer _ _ refl refl)
+    written_so : (f : Reading) (buffer : List ℕ) → recorded_reading m c (settled_log m c) ≡ Some f → Writes f.moves buffer (written_told (recorded_reading m c (settled_log m c)) buffer) (moves_written packed (recorded_reading m c (settled_log m c)) buffer)
+    written_so f buffer e = subst (λ (o : Option Reading). Writes f.moves buffer (written_told o buffer) (moves_written packed o buffer)) (sym e) (writes f buffer _ _ refl refl)
 
     reading_of : (f : Reading) → recorded_reading m c (settled_log m c) ≡ Some f → AnsweredReading m c f.cost (min (length f.moves) 65536)
     reading_of f e =

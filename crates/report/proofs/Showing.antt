@@ -1,129 +1,127 @@
--- The moves of a complete reading, as path packs them and as they are printed.
-use Rattle.std.proofs.Common.{◌≡◌, ℕ, zero, suc, ◌<◌, ◌≤◌, ◌⊎◌, min, List, [], ◌∷◌, ◌++◌, map, length, take, drop, Some, None, Ok, Option, Result, sym, refl, ap, ap₂, ◌∙◌, subst, inl, inr, append-nil, arith}
-use Rattle.std.specs.List.{All, flat_map}
-use Rattle.std.specs.Option.{option_to_list}
-use Rattle.std.proofs.lemmas.Option.{slice_get_within, none-some, same_Some}
+-- The moves of a complete reading are by rows that are held, and what is printed of a file is one text.
+use Rattle.std.proofs.Common.{◌≡◌, ℕ, zero, suc, ◌<◌, ◌≤◌, ◌+◌, List, [], ◌∷◌, ◌++◌, map, length, take, drop, get_or, Ok, Err, Result, String, Global, string_bytes, IfOk, inl, inr, ⊎_elim, sym, refl, ap, ap₂, ◌∙◌, subst, append-nil, arith}
+use Rattle.std.specs.List.{All}
+use Rattle.std.proofs.lemmas.Option.{same_Some}
+use Rattle.std.proofs.lemmas.Bool.{both_ways}
+use Rattle.std.proofs.lemmas.List.{append_assoc, take_more}
 use Rattle.std.proofs.Math.Seq.{take-append_seam}
-use Rattle.std.proofs.lemmas.List.{length-map}
-use Rattle.std.proofs.lemmas.Bool.{cond-true, cond-false, le-leb, lt-leb}
 use Rattle.costs.specs.Meaning.{Meaning, Lawful}
-use Rattle.board.specs.declared.refusal.Refusal.{Refusal}
-use Rattle.board.specs.declared.refusal.Refusal.TheVariants.{NoReading, TooLong}
 use Rattle.board.specs.declared.row.Row.{Row}
 use Rattle.board.specs.declared.moves.Move.{Move}
 use Rattle.board.specs.declared.moves.Effect.{Effect}
+use Rattle.board.specs.declared.refusal.Refusal.{Refusal}
+use Rattle.board.specs.declared.refusal.Refusal.TheVariants.{NoReading}
 use Rattle.board.specs.Content.{Content, Sound}
-use Rattle.board.specs.Moves.{Place, IsMove, Untimed, Timed}
-use Rattle.board.specs.Packing.{packed, SmallLine, Small, PackingIsExact}
+use Rattle.board.specs.Moves.{Place, IsMove}
 use Rattle.board.specs.Paths.{Path, stop, go}
-use Rattle.board.specs.Settling.{RecordedReading}
-use Rattle.board.specs.Computing.{settled_log, recorded_reading}
-use Rattle.board.specs.Promises.{CallsKeepEaseAndSettle, RecordedIsCheapest, Computed, NoReadingBelowWorst}
-use Rattle.board.specs.Questions.{cost_told, cost_answer}
-use Rattle.board.specs.Meanings.{WritesCheapest}
-use Rattle.file.specs.declared.refusal.LoadFault.{LoadFault}
-use Rattle.file.specs.Load.{load_answer, load_after}
-use Rattle.file.specs.Parts.{PartRead}
-use Rattle.report.specs.Least.{move_line, line_of, cost_line, no_line, most_moves, reading_lines, settled_lines, loaded_lines, lines_under, LinesOf, none, one_more, Printed, PrintsReading}
-use Rattle.report.specs.Packed.{Packs, packed_line}
+use Rattle.board.specs.Settling.{bare, RecordedReading}
+use Rattle.board.specs.Computing.{settled_log}
+use Rattle.board.specs.Promises.{CallsKeepEaseAndSettle, RecordedIsCheapest, NoReadingBelowWorst}
+use Rattle.board.specs.Meanings.{WritesCheapest, WritingDeclined}
+use Rattle.file.specs.Load.{load_after}
+use Rattle.report.specs.Adding.{ByHeldRow, LinesAdded}
+use Rattle.report.specs.Least.{move_line, bad_line, no_line, cost_line, most_moves, LinesOf, none, one_more, SettledText, reading, too_long, no_reading, loaded, declined, OneFileText}
 
--- each move names a row of the content, and row and line are small enough to be packed
-data Shown (c : Content) : List Move → Type 0 where
-  nothing : Shown c []
-  more : {v : Move} {vs : List Move} (r : Row) → IsMove c v.row r → Small v → Shown c vs → Shown c (v ∷ vs)
+-- what holds of a value, if there is one, follows from what does
+pub if_ok : {X E : Type 0} {P Q : X → Type 0} → ((x : X) → P x → Q x) → (r : Result X E) → IfOk r P → IfOk r Q
+if_ok f (Ok x) h = f x h
+if_ok f (Err e) h = tt
 
-module _ {m : Meaning} {c : Content} (sound : Sound m c) where
-  small_line : (w : Option ℕ) (r : Row) (a b k : ℕ) → Untimed c r w a b k ⊎ Timed m c r w a b k → SmallLine w
-  small_line None r a b k s = tt
-  small_line (Some j) r a b k (inl s) = absurd (none-some _ (sym s.alone))
-  small_line (Some j) r a b k (inr s) =
-      let e = same_Some _ _ s.along in
-      let h = slice_get_within c.lines s.number s.taken s.found in
-      omega (arith, sound.few_lines, e, h)
+-- the moves of a path are by rows of the content
+path_held : {m : Meaning} {c : Content} {vs : List Move} {p q : Place} {ks : List ℕ} {es : List Effect} → Path m c vs p q ks es → All (ByHeldRow c) vs
+path_held stop k d h = absurd (omega (arith, h))
+path_held (go {v} g p) zero d h = record { by = g.by; found = g.found }
+path_held (go g p) (suc k) d h = path_held p k d (omega (arith, h))
 
-  path_shown : {vs : List Move} {p q : Place} {ks : List ℕ} {es : List Effect} → Path m c vs p q ks es → Shown c vs
-  path_shown stop = nothing
-  path_shown (go {v} g p) =
-      let h = slice_get_within c.rows v.row g.by g.found in
-      more g.by g.found (omega (arith, sound.few_rows, h), small_line v.line g.by _ _ _ g.time) (path_shown p)
+map_self : (vs : List Move) → map (λ v. v) vs ≡ vs
+map_self [] = refl
+map_self (v ∷ vs) = ap (λ (ws : List Move). v ∷ ws) (map_self vs)
 
-module _ {c : Content} where
-  -- the lines of moves that are shown
-  lines_of : {vs : List Move} → Shown c vs → LinesOf c vs (flat_map (line_of c) vs)
-  lines_of nothing = none
-  lines_of (more {v} {vs} r f s rest) =
-      let one : line_of c v ≡ move_line v r = ap (λ (o : Option Row). flat_map (move_line v) (option_to_list o)) f ∙ append-nil (move_line v r) in
-      subst (λ (t : List ℕ). LinesOf c (v ∷ vs) (t ++ flat_map (line_of c) vs)) (sym one) (one_more f (lines_of rest))
+-- one move's line more
+pub line_more : {c : Content} (vs : List Move) (v : Move) (r : Row) (text : List ℕ) → LinesOf c vs text → IsMove c v.row r → LinesOf c (vs ++ (v ∷ [])) (text ++ move_line v r)
+line_more {c} [] v r text none h = subst (LinesOf c (v ∷ [])) (append-nil (move_line v r)) (one_more h none)
+line_more (w ∷ vs) v r _ (one_more {r = s} {text} k p) h =
+    subst (LinesOf _ (w ∷ (vs ++ (v ∷ [])))) (sym (append_assoc (move_line w s) text (move_line v r))) (one_more k (line_more vs v r text p h))
 
-  module _ (exact : PackingIsExact) where
-    all_packs : {vs : List Move} → Shown c vs → All (Packs c) (map packed vs)
-    all_packs nothing k d h = absurd (omega (arith, h))
-    all_packs (more {v} r f s rest) zero d h = record { move = v; by = r; unpacks = exact.comes_back v s; found = f }
-    all_packs (more r f s rest) (suc k) d h = all_packs rest k d (omega (arith, h))
+-- one move's line is added to lines of the moves before it
+pub added_more : (c : Content) (vs : List Move) (i : ℕ) → i < length vs → (r : Row) → IsMove c (get_or vs i (bare 0)).row r → (old now new : List ℕ) → LinesAdded c (take i vs) old now → new ≡ now ++ move_line (get_or vs i (bare 0)) r → LinesAdded c (take (i + 1) vs) old new
+added_more c vs i within r held old now new lines e =
+    let v = get_or vs i (bare 0) in
+    record {
+      text = lines.text ++ move_line v r;
+      each = subst (λ (ws : List Move). LinesOf c ws (lines.text ++ move_line v r)) (sym (take_more vs i (bare 0) within)) (line_more (take i vs) v r lines.text lines.each held);
+      added = e ∙ ap (λ (t : List ℕ). t ++ move_line v r) lines.added ∙ append_assoc old lines.text (move_line v r);
+    }
 
-    packed_lines : {vs : List Move} → Shown c vs → flat_map (packed_line c) (map packed vs) ≡ flat_map (line_of c) vs
-    packed_lines nothing = refl
-    packed_lines (more {v} r f s rest) =
-        ap₂ (λ (a b : List ℕ). a ++ b)
-        (ap (λ (o : Option Move). flat_map (line_of c) (option_to_list o)) (exact.comes_back v s) ∙ append-nil (line_of c v))
-        (packed_lines rest)
+-- moves have one text of lines
+one_of_lines : {c : Content} {vs : List Move} {a b : List ℕ} → LinesOf c vs a → LinesOf c vs b → a ≡ b
+one_of_lines none none = refl
+one_of_lines (one_more {v} {r} h p) (one_more {r = s} k q) = ap₂ (λ (x : Row) (t : List ℕ). move_line v x ++ t) (same_Some _ _ (sym h ∙ k)) (one_of_lines p q)
 
 module _ {m : Meaning} (laws : Lawful m) (promises : CallsKeepEaseAndSettle) {c : Content} (sound : Sound m c) where
-  computed : Computed m c
-  computed = promises.computed m c laws sound
-
   cheapest : RecordedIsCheapest m c (settled_log m c)
-  cheapest = ((promises.settling m c laws sound).1 (settled_log m c) computed.settled).1
+  cheapest = ((promises.settling m c laws sound).1 (settled_log m c) (promises.computed m c laws sound).settled).1
 
-  found_so : {k : ℕ} {vs : List Move} → RecordedReading m c (settled_log m c) k vs → (i : ℕ) × (recorded_reading m c (settled_log m c) ≡ Some (record { row = i; cost = k; moves = vs }))
-  found_so {k} {vs} r = (computed.some (settled_log m c) computed.settled k vs).0 r
+  -- there is no recorded reading where none is below the worst
+  not_both : {k : ℕ} {vs : List Move} → RecordedReading m c (settled_log m c) k vs → NoReadingBelowWorst m c → ⊥
+  not_both {k} {vs} r below = both_ways _ r.below (cheapest.none.1 below r.last k vs r.reads)
 
-  reading_shown : {k : ℕ} {vs : List Move} → RecordedReading m c (settled_log m c) k vs → Shown c vs
-  reading_shown {k} {vs} r = path_shown sound (cheapest.complete k vs r).path
+  same_length : {k n : ℕ} {vs ws : List Move} → RecordedReading m c (settled_log m c) k vs → RecordedReading m c (settled_log m c) n ws → length vs ≡ length ws
+  same_length {k} {n} {vs} {ws} r s = ap length (cheapest.single k n vs ws r s).1
 
-  -- what is printed of the recorded reading
-  short_lines : {k : ℕ} {vs : List Move} → RecordedReading m c (settled_log m c) k vs → length vs ≤ most_moves → settled_lines m c (settled_log m c) ≡ cost_line m.letter k (length vs) ++ flat_map (line_of c) vs
-  short_lines r short = ap (reading_lines m c) (found_so r).1 ∙ cond-true _ _ _ (le-leb _ _ short)
+  -- a settled content has one text
+  one_settled : {a b : List ℕ} → SettledText m c a → SettledText m c b → a ≡ b
+  one_settled (reading {k} {vs} {text = x} r short p) (reading {k = n} {vs = ws} {text = y} s short' q) =
+      let e = cheapest.single k n vs ws r s in
+      let same : x ≡ y = one_of_lines (subst (λ (zs : List Move). LinesOf c zs x) e.1 p) q in
+      ap₂ (λ (l t : List ℕ). l ++ t) (ap₂ (λ (i j : ℕ). cost_line m.letter i j) e.0 (same_length r s)) same
+  one_settled (reading r short p) (too_long s long) = absurd (omega (arith, same_length r s, short, long))
+  one_settled (reading r short p) (no_reading below) = absurd (not_both r below)
+  one_settled (too_long r long) (reading s short p) = absurd (omega (arith, same_length r s, short, long))
+  one_settled (too_long r long) (too_long s long') = refl
+  one_settled (too_long r long) (no_reading below) = absurd (not_both r below)
+  one_settled (no_reading below) (reading s short p) = absurd (not_both s below)
+  one_settled (no_reading below) (too_long s long) = absurd (not_both s below)
+  one_settled (no_reading below) (no_reading below') = refl
 
-  long_lines : {k : ℕ} {vs : List Move} → RecordedReading m c (settled_log m c) k vs → most_moves < length vs → settled_lines m c (settled_log m c) ≡ no_line TooLong
-  long_lines r long = ap (reading_lines m c) (found_so r).1 ∙ cond-false _ _ _ (lt-leb _ _ long)
-
-  no_lines : NoReadingBelowWorst m c → settled_lines m c (settled_log m c) ≡ no_line NoReading
-  no_lines below = ap (reading_lines m c) ((computed.none (settled_log m c) computed.settled).0 (cheapest.none.1 below))
-
-  printed : {k : ℕ} {vs : List Move} → RecordedReading m c (settled_log m c) k vs → length vs ≤ most_moves → Printed m c k vs (settled_lines m c (settled_log m c))
-  printed r short = record { text = _; each = lines_of (reading_shown r); whole = short_lines r short }
-
-  -- what stands in a buffer of 4,096 numbers after path
-  module _ (exact : PackingIsExact) (buffer after : List ℕ) (n : ℕ) (w : WritesCheapest m c (settled_log m c) buffer n after) where
-    in_front : take n after ≡ map packed w.reading
+  -- what stands in a buffer of 4,096 moves, once the reading is written
+  module _ (buffer after : List Move) (n : ℕ) (w : WritesCheapest (λ v. v) m c (settled_log m c) buffer n after) where
+    in_front : take n after ≡ w.reading
     in_front =
-        ap (take n) w.written
-        ∙ ap (λ (i : ℕ). take i (map packed w.reading ++ drop n buffer)) (w.number ∙ sym (length-map w.reading packed))
-        ∙ take-append_seam (map packed w.reading) (drop n buffer)
+        ap (take n) (w.written ∙ ap (λ (vs : List Move). vs ++ drop n buffer) (map_self w.reading))
+        ∙ ap (λ (i : ℕ). take i (w.reading ++ drop n buffer)) w.number
+        ∙ take-append_seam w.reading (drop n buffer)
 
-    pub front_packs : All (Packs c) (take n after)
-    front_packs = subst (All (Packs c)) (sym in_front) (all_packs exact (reading_shown w.recorded))
+    pub front_held : All (ByHeldRow c) (take n after)
+    front_held = subst (All (ByHeldRow c)) (sym in_front) (path_held (cheapest.complete w.cost w.reading w.recorded).path)
 
-    pub front_lines : (cost number : ℕ) → Ok (cost, number) ≡ cost_answer m c (settled_log m c) → length buffer ≤ most_moves → cost_line m.letter cost number ++ flat_map (packed_line c) (take n after) ≡ settled_lines m c (settled_log m c)
-    front_lines cost number is small =
+    -- the text of the first line and their lines
+    pub printed : {k : ℕ} {vs : List Move} (old new : List ℕ) → RecordedReading m c (settled_log m c) k vs → length buffer ≤ most_moves → old ≡ cost_line m.letter k n → LinesAdded c (take n after) old new → SettledText m c new
+    printed {k} {vs} old new r small first lines =
+        let e = cheapest.single k w.cost vs w.reading r w.recorded in
+        let each : LinesOf c w.reading lines.text = subst (λ (zs : List Move). LinesOf c zs lines.text) in_front lines.each in
         let short : length w.reading ≤ most_moves = omega (arith, w.room, w.number, small) in
-        let told : ◌≡◌ {A = Result (ℕ × ℕ) Refusal} (Ok (cost, number)) (Ok (w.cost, min (length w.reading) 65536)) = is ∙ ap cost_told (found_so w.recorded).1 in
-        let same : ◌≡◌ {A = ℕ × ℕ} (cost, number) (w.cost, min (length w.reading) 65536) = cc in
-        let few : min (length w.reading) 65536 ≡ length w.reading = omega (arith, short) in
-        ap₂ (λ (l t : List ℕ). l ++ t)
-        (ap (λ (a : ℕ × ℕ). cost_line m.letter a.0 a.1) same ∙ ap (cost_line m.letter w.cost) few)
-        (ap (flat_map (packed_line c)) in_front ∙ packed_lines exact (reading_shown w.recorded))
-        ∙ sym (short_lines w.recorded short)
+        let whole : cost_line m.letter w.cost (length w.reading) ++ lines.text ≡ new =
+        ap (λ (l : List ℕ). l ++ lines.text) (sym (first ∙ ap₂ (λ (i j : ℕ). cost_line m.letter i j) e.0 w.number)) ∙ sym lines.added in
+        subst (SettledText m c) whole (reading w.recorded short each)
 
--- what is printed of a file
-pub prints_reading : {m : Meaning} (laws : Lawful m) (promises : CallsKeepEaseAndSettle) (bytes : List ℕ) → Sound m (load_after m bytes) → PrintsReading m bytes
-prints_reading {m} laws promises bytes sound =
-    let c = load_after m bytes in
-    let loads : (n : PartRead) → load_answer m bytes ≡ Ok n → lines_under m bytes ≡ settled_lines m c (settled_log m c) = λ n is. ap (λ (o : Result PartRead LoadFault). loaded_lines m o c) is in
-    record {
-      reading = λ n is k vs r short. subst (Printed m c k vs) (sym (loads n is)) (printed laws promises sound r short);
-      too_long = λ n is k vs r long. loads n is ∙ long_lines laws promises sound r long;
-      none = λ n is below. loads n is ∙ no_lines laws promises sound below;
-      fault = λ e is. ap (λ (o : Result PartRead LoadFault). loaded_lines m o c) is;
-    }
+-- what is printed of the cost question's refusal
+pub told_none : {m : Meaning} {c : Content} {e : Refusal} → (e ≡ NoReading) × NoReadingBelowWorst m c → (s : String Global) → string_bytes s ≡ no_line e → SettledText m c (string_bytes s)
+told_none {m} {c} why s is = subst (SettledText m c) (sym (is ∙ ap no_line why.0)) (no_reading why.1)
+
+-- what is printed where writing the moves is declined
+pub told_declined : {m : Meaning} {c : Content} {e : Refusal} (buffer : List Move) → most_moves ≤ length buffer → WritingDeclined m c (settled_log m c) buffer e → (s : String Global) → string_bytes s ≡ no_line e → SettledText m c (string_bytes s)
+told_declined {m} {c} buffer room (inl why) s is = told_none why s is
+told_declined {m} {c} buffer room (inr why) s is =
+    let long = why.1 in
+    let many : most_moves < length long.reading = ⊎_elim (λ h. omega (arith, h, room)) (λ h. omega (arith, h)) long.longer in
+    subst (SettledText m c) (sym (is ∙ ap no_line why.0)) (too_long long.recorded many)
+
+-- a file has one text
+pub one_file_text : {m : Meaning} (laws : Lawful m) (promises : CallsKeepEaseAndSettle) (bytes : List ℕ) → Sound m (load_after m bytes) → OneFileText m bytes
+one_file_text laws promises bytes sound a b (loaded e s) (loaded e' s') = one_settled laws promises sound s s'
+one_file_text laws promises bytes sound a b (loaded e s) (declined e') = absurd (cc (e, e'))
+one_file_text laws promises bytes sound a b (declined e) (loaded e' s') = absurd (cc (e, e'))
+one_file_text laws promises bytes sound a b (declined {fault = x} e) (declined {fault = y} e') =
+    let same : x ≡ y = cc (e, e') in
+    ap bad_line same

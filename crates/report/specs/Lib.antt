@@ -3,4 +3,4 @@ pub mod Least
 -- The worked examples, in one table.
 pub mod Worked
 -- What only inner functions and proofs name.
-pub mod Packed
+pub mod Adding

@@ -1,13 +1,13 @@
 // What `least` prints of a file.
 ghost use Rattle.std.specs.Prelude.{◌≡◌, ◌++◌, IfOk, OnOk, slice_index_or, string_bytes};
-ghost use Rattle.std.specs.List.{All, flat_map};
+ghost use Rattle.std.specs.List.{All};
 ghost use Rattle.costs.specs.Names.{meaning_of};
-ghost use Rattle.board.specs.Boards.{settled_content, settled_records};
-ghost use Rattle.report.specs.Least.{meaning_under, cost_line, settled_lines, lines_under, least_lines, PrintsReading, LimitNeverShows};
-ghost use Rattle.report.specs.Packed.{Packs, packed_line};
+ghost use Rattle.board.specs.Boards.{settled_content};
+ghost use Rattle.report.specs.Adding.{ByHeldRow, LinesAdded};
+ghost use Rattle.report.specs.Least.{meaning_under, move_line, cost_line, SettledText, FileText, OneFileText, LeastText, OneText, LimitNeverShows};
 ghost use Rattle.report.specs.Worked.{WorkedExamples};
 
-use board::{Draft, Move, Settled, board_theorems};
+use board::{Draft, Move, Row, Settled, board_theorems};
 use costs::{Kind, KindName, Points, Rank, Severity};
 use file::{Load, file_theorems};
 use std::alloc::{AllocError, Global};
@@ -16,36 +16,35 @@ use std::fmt::Write;
 // The most moves of a reading that is printed.
 const MOST_MOVES: usize = 4096;
 
-// Adds the line of a packed move: its row, its line or `-`, and the row's action.
-fn push_move<K: Kind>(out: &mut String, settled: &Settled<K>, packed: u16) -> Result<(), AllocError>
-    requires { Packs (settled_content settled.now) packed }
-    ensures { OnOk result (string_bytes out.new ≡ string_bytes out.old ++ packed_line (settled_content settled.now) packed) }
+// Adds the line of a move by that row: the row's number, the move's line or `-`, and the row's action.
+fn push_move(out: &mut String, v: Move, by: Row) -> Result<(), AllocError>
+    ensures { OnOk result (string_bytes out.new ≡ string_bytes out.old ++ move_line v by) }
 {
-    let Move { row, line } = Move::unpack(packed).unwrap();
-    let action = settled.row(usize::from(row)).unwrap().action;
-    match line {
+    let (row, action) = (v.row, by.action);
+    match v.line {
         Some(line) => writeln!(out, "{row} {line} {action}"),
         None => writeln!(out, "{row} - {action}"),
     }
 }
 
-// Adds the lines of the packed moves.
+// Adds the lines of moves by rows that the board holds.
 fn push_moves<K: Kind>(
     out: &mut String,
     settled: &Settled<K>,
-    moves: &[u16],
+    moves: &[Move],
 ) -> Result<(), AllocError>
-    requires { All (Packs (settled_content settled.now)) moves.now }
-    ensures { OnOk result (string_bytes out.new ≡ string_bytes out.old ++ flat_map (packed_line (settled_content settled.now)) moves.now) }
+    requires { All (ByHeldRow (settled_content settled.now)) moves.now }
+    ensures { OnOk result (LinesAdded (settled_content settled.now) moves.now (string_bytes out.old) (string_bytes out.new)) }
 {
-    for packed in moves {
-        push_move(out, settled, *packed)?;
+    for v in moves {
+        let by = settled.row(usize::from(v.row)).unwrap();
+        push_move(out, *v, by)?;
     }
     Ok(())
 }
 
 // The first line: letter, cost and number of moves.
-fn first_line<K: Kind>(heap: Global, cost: u32, moves: u32) -> Result<String, AllocError>
+fn first_line<K: Kind>(heap: Global, cost: u32, moves: usize) -> Result<String, AllocError>
     ensures { IfOk result (λ s. string_bytes s ≡ cost_line K.meaning.letter cost moves) }
 {
     let letter = K::letter();
@@ -54,20 +53,19 @@ fn first_line<K: Kind>(heap: Global, cost: u32, moves: u32) -> Result<String, Al
 
 // What is printed of a settled board: cost and moves, or why there are none. (A refusal is printed here, and not passed on.)
 fn reading<K: Kind>(heap: Global, settled: &Settled<K>) -> Result<String, AllocError>
-    ensures { IfOk result (λ s. string_bytes s ≡ settled_lines K.meaning (settled_content settled.now) (settled_records settled.now)) }
+    ensures { IfOk result (λ s. SettledText K.meaning (settled_content settled.now) (string_bytes s)) }
 {
     board_theorems();
-    let (cost, number) = match settled.cost() {
-        Ok(answer) => answer,
+    let cost = match settled.cost() {
+        Ok((cost, _)) => cost,
         Err(refusal) => return format!(in heap; "{refusal}\n"),
     };
-    // `path` fills the front of a buffer, and tells how much
-    let mut buffer = [0; MOST_MOVES];
-    let n = match settled.path(&mut buffer) {
+    let mut buffer = [Move { row: 0, line: None }; MOST_MOVES];
+    let n = match settled.moves(&mut buffer) {
         Ok(n) => n,
         Err(refusal) => return format!(in heap; "{refusal}\n"),
     };
-    let mut out = first_line::<K>(heap, cost, number)?;
+    let mut out = first_line::<K>(heap, cost, n)?;
     push_moves(&mut out, settled, &buffer[..n])?;
     Ok(out)
 }
@@ -75,8 +73,8 @@ fn reading<K: Kind>(heap: Global, settled: &Settled<K>) -> Result<String, AllocE
 // What is printed of a file under a kind. (A frame of its own for each kind, so that only one kind's is set up.)
 #[inline(never)]
 fn under<K: Kind>(heap: Global, bytes: &[u8]) -> Result<String, AllocError>
-    ensures lines { IfOk result (λ s. string_bytes s ≡ lines_under K.meaning bytes.now) }
-    ensures reading { PrintsReading K.meaning bytes.now }
+    ensures text { IfOk result (λ s. FileText K.meaning bytes.now (string_bytes s)) }
+    ensures one { OneFileText K.meaning bytes.now }
 {
     let mut draft = Draft::<K>::new();
     match draft.load(bytes) {
@@ -97,11 +95,12 @@ fn kind_of(bytes: &[u8]) -> KindName
 // whose method is run under each would be no plainer than three arms.)
 #[tactic(auto, using(crate::proofs::Working::worked, crate::proofs::Limit::limit_never_shows))]
 pub fn least(heap: Global, bytes: &[u8]) -> Result<Vec<u8>, AllocError>
-    ensures lines { IfOk result (λ v. v.items ≡ least_lines bytes.now) }
-    ensures reading { PrintsReading (meaning_under (slice_index_or bytes.now 0 80)) bytes.now }
+    ensures text { IfOk result (λ v. LeastText bytes.now v.items) }
+    ensures one { OneText bytes.now }
     ensures limit { LimitNeverShows }
     ensures examples { WorkedExamples }
 {
+    board_theorems();
     file_theorems();
     let lines = match kind_of(bytes) {
         KindName::Points => under::<Points>(heap, bytes),

@@ -1,7 +1,6 @@
 // The program `least`, from its input to its output.
 ghost use Rattle.std.specs.Prelude.{◌≡◌, take, IfOk, OnOk, IfSome};
-ghost use Rattle.std.specs.Io.KnownBytes.{Appends};
-ghost use Rattle.report.specs.Least.{least_lines, bytes_read};
+ghost use Rattle.report.specs.Least.{LeastWritten, bytes_read};
 
 use crate::files::least;
 use std::alloc::Global;
@@ -23,7 +22,7 @@ fn read_first<R: Read + Drop>(heap: Global, reader: R) -> io::Result<Vec<u8>>
 // Reads a file, at most its first 8,192 bytes, and writes what `least` prints of it, and nothing else; an error where reading,
 // writing or memory fails.
 pub fn filter<R: Read + Drop, W: Write>(heap: Global, reader: R, writer: &mut W) -> io::Result<()>
-    ensures { OnOk result (IfSome (R.remaining reader) (λ input. Appends (W.contents writer.old) (W.contents writer.new) (least_lines input))) }
+    ensures { OnOk result (IfSome (R.remaining reader) (λ input. LeastWritten input (W.contents writer.old) (W.contents writer.new))) }
 {
     let input = read_first(heap, reader)?;
     let lines = least(heap, input.as_slice())?;

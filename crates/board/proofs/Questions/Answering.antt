@@ -13,12 +13,11 @@ use Rattle.board.specs.declared.refusal.Refusal.TheVariants.{TooLong, PlaceOut}
 use Rattle.board.specs.Content.{Content, Sound}
 use Rattle.board.specs.Moves.{Place, On, place_number}
 use Rattle.board.specs.Paths.{BalancedPath}
-use Rattle.board.specs.Packing.{packed}
 use Rattle.board.specs.Settling.{Record, SettledLog}
 use Rattle.board.specs.Computing.{record_between, Reading, recorded_reading}
 use Rattle.board.specs.Promises.{RecordsAreLeast, RecordedIsCheapest}
-use Rattle.board.specs.Questions.{recorded_cost, between_answer, cost_told, cost_answer, fits, path_told, path_written, path_answer, path_after}
-use Rattle.board.specs.Meanings.{CostIsCheapest, PathWritesCheapest, Pair, BetweenIsLeast}
+use Rattle.board.specs.Questions.{recorded_cost, between_answer, cost_told, cost_answer, fits, written_told, moves_written, path_answer, reading_after}
+use Rattle.board.specs.Meanings.{CostIsCheapest, WritesCheapestReading, Pair, BetweenIsLeast}
 use Rattle.board.proofs.Basics.Membership.{none_some}
 use Rattle.board.proofs.Questions.Finding.{joins_parts, between_some, between_is, found_recorded, found_none}
 use Rattle.board.proofs.Basics.Numbers.{place_below}
@@ -45,12 +44,12 @@ module _ {m : Meaning} {c : Content} (laws : Lawful m) (sound : Sound m c) {log 
   cost_means : CostIsCheapest m c log (cost_answer m c log)
   cost_means = cost_by _ refl
 
-  -- path
-  longer : (f : Reading) (buffer : List ℕ) → fits f buffer ≡ false → (length buffer < length f.moves) ⊎ (65535 < length f.moves)
+  -- the reading written, each move in a form
+  longer : {A : Type 0} (f : Reading) (buffer : List A) → fits f buffer ≡ false → (length buffer < length f.moves) ⊎ (65535 < length f.moves)
   longer f buffer e = ⊎_elim (λ h. inl (leb-false _ _ h)) (λ h. inr (leb-false _ _ h)) (and_cases _ _ e)
 
-  path_fits : (f : Reading) (buffer : List ℕ) → recorded_reading m c log ≡ Some f → (t : Bool) → fits f buffer ≡ t → PathWritesCheapest m c log buffer (cond t (Ok (length f.moves)) (Err TooLong)) (cond t (map packed f.moves ++ drop (length f.moves) buffer) buffer)
-  path_fits f buffer e true h =
+  path_fits : {A : Type 0} (form : Move → A) (f : Reading) (buffer : List A) → recorded_reading m c log ≡ Some f → (t : Bool) → fits f buffer ≡ t → WritesCheapestReading form m c log buffer (cond t (Ok (length f.moves)) (Err TooLong)) (cond t (map form f.moves ++ drop (length f.moves) buffer) buffer)
+  path_fits form f buffer e true h =
       let r = found_recorded laws sound d.reached f e in
       let z = and_parts _ _ h in
       record {
@@ -65,14 +64,14 @@ module _ {m : Meaning} {c : Content} (laws : Lawful m) (sound : Sound m c) {log 
         written = refl;
         checked = promised.1.checked _ _ r;
       }
-  path_fits f buffer e false h = (inr (refl, record { cost = f.cost; reading = f.moves; recorded = found_recorded laws sound d.reached f e; longer = longer f buffer h }), refl)
+  path_fits form f buffer e false h = (inr (refl, record { cost = f.cost; reading = f.moves; recorded = found_recorded laws sound d.reached f e; longer = longer f buffer h }), refl)
 
-  path_by : (o : Option Reading) (buffer : List ℕ) → recorded_reading m c log ≡ o → PathWritesCheapest m c log buffer (path_told o buffer) (path_written o buffer)
-  path_by None buffer e = (inl (refl, promised.1.none.0 (found_none laws sound d.reached e)), refl)
-  path_by (Some f) buffer e = path_fits f buffer e (fits f buffer) refl
+  path_by : {A : Type 0} (form : Move → A) (o : Option Reading) (buffer : List A) → recorded_reading m c log ≡ o → WritesCheapestReading form m c log buffer (written_told o buffer) (moves_written form o buffer)
+  path_by form None buffer e = (inl (refl, promised.1.none.0 (found_none laws sound d.reached e)), refl)
+  path_by form (Some f) buffer e = path_fits form f buffer e (fits f buffer) refl
 
-  path_means : (buffer : List ℕ) → PathWritesCheapest m c log buffer (path_answer m c log buffer) (path_after m c log buffer)
-  path_means buffer = path_by _ buffer refl
+  path_means : {A : Type 0} (form : Move → A) (buffer : List A) → WritesCheapestReading form m c log buffer (path_answer m c log buffer) (reading_after form m c log buffer)
+  path_means form buffer = path_by form _ buffer refl
 
   -- between
   some_between : (s q : ℕ) (a : Record) → record_between c log s q ≡ Some a → BetweenIsLeast m c s q (Ok a.cost)
@@ -129,8 +128,8 @@ module _ {K : Type 0} {k : Ghosts K} (laws : Lawful k.meaning) (s : SettledBoard
   pub cost_tells : (r : Result (ℕ × ℕ) Refusal) → r ≡ cost_answer k.meaning (settled_content s) (settled_records s) → CostIsCheapest k.meaning (settled_content s) (settled_records s) r
   cost_tells r e = subst (CostIsCheapest k.meaning (settled_content s) (settled_records s)) (sym e) (cost_means laws s.tables.sound (settled_of laws s))
 
-  pub path_tells : (b b' : List ℕ) (r : Result ℕ Refusal) → r ≡ path_answer k.meaning (settled_content s) (settled_records s) b → b' ≡ path_after k.meaning (settled_content s) (settled_records s) b → PathWritesCheapest k.meaning (settled_content s) (settled_records s) b r b'
-  path_tells b b' r e f = subst₂ (PathWritesCheapest k.meaning (settled_content s) (settled_records s) b) (sym e) (sym f) (path_means laws s.tables.sound (settled_of laws s) b)
+  pub path_tells : {A : Type 0} (form : Move → A) (b b' : List A) (r : Result ℕ Refusal) → r ≡ path_answer k.meaning (settled_content s) (settled_records s) b → b' ≡ reading_after form k.meaning (settled_content s) (settled_records s) b → WritesCheapestReading form k.meaning (settled_content s) (settled_records s) b r b'
+  path_tells form b b' r e f = subst₂ (WritesCheapestReading form k.meaning (settled_content s) (settled_records s) b) (sym e) (sym f) (path_means laws s.tables.sound (settled_of laws s) form b)
 
   pub between_tells : (from to : ℕ) (r : Result ℕ Refusal) → r ≡ between_answer (settled_content s) (settled_records s) from to → BetweenIsLeast k.meaning (settled_content s) from to r
   between_tells from to r e = subst (BetweenIsLeast k.meaning (settled_content s) from to) (sym e) (between_means laws s.tables.sound (settled_of laws s) from to)

@@ -52,18 +52,18 @@ last_of ms before k v h g e =
     same_from_push before (take (k - 1) ms) v (get_or ms (k - 1) (bare 0)) (sym e ∙ (ap (λ (m : ℕ). take m ms) j ∙ take_more ms (k - 1) (bare 0) (omega arith)))
 
 -- a buffer with the moves from the k-th on written, before the first is, at each, and at the end
-module _ (f : Move → ℕ) (ms : List Move) (old : List ℕ) (n : ℕ) where
-  abbrev pub written : ℕ → List ℕ
+module _ {A : Type 0} (f : Move → A) (ms : List Move) (old : List A) (n : ℕ) where
+  abbrev pub written : ℕ → List A
   written k = take k old ++ (map f (drop k ms) ++ drop n old)
 
   pub write_none : n ≡ length ms → old ≡ written n
   write_none e = sym (ap (λ (d : List Move). take n old ++ (map f d ++ drop n old)) (drop_all n ms (omega arith)) ∙ take-append-drop n old)
 
-  pub write_more : (k x : ℕ) (out : List ℕ) → 0 < k → k ≤ length ms → k ≤ length old → out ≡ written k → x ≡ f (get_or ms (k - 1) (bare 0)) → set out (k - 1) x ≡ written (k - 1)
+  pub write_more : (k : ℕ) (x : A) (out : List A) → 0 < k → k ≤ length ms → k ≤ length old → out ≡ written k → x ≡ f (get_or ms (k - 1) (bare 0)) → set out (k - 1) x ≡ written (k - 1)
   write_more k x out h g r e z =
       let j : k ≡ k - 1 + 1 = omega arith in
       let rest = map f (drop (k - 1 + 1) ms) ++ drop n old in
-      let split : out ≡ take (k - 1) old ++ (get_or old (k - 1) 0 ∷ rest) = e ∙ (ap written j ∙ (ap (λ (t : List ℕ). t ++ rest) (take_more old (k - 1) 0 (omega arith)) ∙ append_assoc (take (k - 1) old) (get_or old (k - 1) 0 ∷ []) rest)) in
-      ap₂ (λ (o : List ℕ) (y : ℕ). set o (k - 1) y) split z
-      ∙ (set_at (take (k - 1) old) (get_or old (k - 1) 0) rest (f (get_or ms (k - 1) (bare 0))) (k - 1) (length-take-le (k - 1) old (omega arith))
+      let split : out ≡ take (k - 1) old ++ (get_or old (k - 1) (f (bare 0)) ∷ rest) = e ∙ (ap written j ∙ (ap (λ (t : List A). t ++ rest) (take_more old (k - 1) (f (bare 0)) (omega arith)) ∙ append_assoc (take (k - 1) old) (get_or old (k - 1) (f (bare 0)) ∷ []) rest)) in
+      ap₂ (λ (o : List A) (y : A). set o (k - 1) y) split z
+      ∙ (set_at (take (k - 1) old) (get_or old (k - 1) (f (bare 0))) rest (f (get_or ms (k - 1) (bare 0))) (k - 1) (length-take-le (k - 1) old (omega arith))
       ∙ ap (λ (t : List Move). take (k - 1) old ++ (map f t ++ drop n old)) (sym (drop_more ms (k - 1) (bare 0) (omega arith))))

@@ -6,15 +6,16 @@ ghost use Rattle.board.specs.Accepted.{AcceptsReadings};
 ghost use Rattle.board.specs.Faults.{RefusesFaults};
 ghost use Rattle.board.specs.Paths.{GrammarIsStack};
 ghost use Rattle.board.specs.Promises.{MovesComputed, OneCost};
-ghost use Rattle.board.specs.Questions.{between_answer, cost_answer, path_answer, path_after};
-ghost use Rattle.board.specs.Meanings.{CostIsCheapest, PathWritesCheapest, BetweenIsLeast};
+ghost use Rattle.board.specs.Packing.{packed};
+ghost use Rattle.board.specs.Questions.{between_answer, cost_answer, path_answer, reading_after, path_after, moves_after};
+ghost use Rattle.board.specs.Meanings.{CostIsCheapest, WritesCheapestReading, BetweenIsLeast};
 
 use crate::bounds::{MANY_MOVES, MOST_WRITTEN};
 use crate::check::Fault;
 use crate::moves::Move;
 use crate::refusal::Refusal;
 use crate::settled::Settled;
-use crate::writing::write_moves;
+use crate::writing::{MoveForm, write_moves};
 use costs::Kind;
 
 impl<K: Kind> Settled<K> {
@@ -40,11 +41,11 @@ impl<K: Kind> Settled<K> {
         Ok((r.cost, (self.log.lengths[r.before] + 1).min(MANY_MOVES)))
     }
 
-    // Writes the recorded reading's packed moves to the front of the buffer, and answers how many.
-    pub fn path(&self, buffer: &mut [u16]) -> Result<usize, Refusal>
+    // Writes the recorded reading's moves, each in the buffer's form, to the front of the buffer, and answers how many.
+    fn write_reading<F: MoveForm>(&self, buffer: &mut [F]) -> Result<usize, Refusal>
         ensures answer { result ≡ path_answer K.meaning (settled_content self.now) (settled_records self.now) buffer.old }
-        ensures after { buffer.new ≡ path_after K.meaning (settled_content self.now) (settled_records self.now) buffer.old }
-        ensures means { PathWritesCheapest K.meaning (settled_content self.now) (settled_records self.now) buffer.old result buffer.new }
+        ensures after { buffer.new ≡ reading_after F.form K.meaning (settled_content self.now) (settled_records self.now) buffer.old }
+        ensures means { WritesCheapestReading F.form K.meaning (settled_content self.now) (settled_records self.now) buffer.old result buffer.new }
     {
         let r = self.recorded().ok_or(Refusal::NoReading)?;
         let moves = self.log.lengths[r.before] as usize;
@@ -52,12 +53,29 @@ impl<K: Kind> Settled<K> {
             return Err(Refusal::TooLong);
         }
         let n = write_moves(&self.log, r.before, buffer);
-        buffer[n] = Move {
+        buffer[n] = F::of(Move {
             row: r.row,
             line: None,
-        }
-        .pack();
+        });
         Ok(n + 1)
+    }
+
+    // Writes the recorded reading's packed moves to the front of the buffer, and answers how many.
+    pub fn path(&self, buffer: &mut [u16]) -> Result<usize, Refusal>
+        ensures answer { result ≡ path_answer K.meaning (settled_content self.now) (settled_records self.now) buffer.old }
+        ensures after { buffer.new ≡ path_after K.meaning (settled_content self.now) (settled_records self.now) buffer.old }
+        ensures means { WritesCheapestReading packed K.meaning (settled_content self.now) (settled_records self.now) buffer.old result buffer.new }
+    {
+        self.write_reading(buffer)
+    }
+
+    // Writes the recorded reading's moves to the front of the buffer, and answers how many; refuses as `path` does.
+    pub fn moves(&self, buffer: &mut [Move]) -> Result<usize, Refusal>
+        ensures answer { result ≡ path_answer K.meaning (settled_content self.now) (settled_records self.now) buffer.old }
+        ensures after { buffer.new ≡ moves_after K.meaning (settled_content self.now) (settled_records self.now) buffer.old }
+        ensures means { WritesCheapestReading (λ v. v) K.meaning (settled_content self.now) (settled_records self.now) buffer.old result buffer.new }
+    {
+        self.write_reading(buffer)
     }
 
     // The cost of the complete reading that the packed moves are, or the first faulty move.

@@ -19,7 +19,7 @@ use Rattle.board.specs.Calls.{size_fault, size_after, row_fault, row_after, line
 use Rattle.board.specs.Checks.{bracketed, Progress, before_moves, arrived, take_named, named_by_number, take_move, or_fault, checked_from, check_answer}
 use Rattle.board.specs.Computing.{Reading, record_between, recorded_reading}
 use Rattle.board.specs.Packing.{unpacked}
-use Rattle.board.specs.Questions.{recorded_cost, cost_told, path_told, between_answer}
+use Rattle.board.specs.Questions.{recorded_cost, cost_told, written_told, between_answer}
 use Rattle.board.specs.Refusals.{number, answer}
 use Rattle.board.specs.Settling.{In, Record}
 use Rattle.file.specs.declared.call.Call.{Call}
@@ -97,7 +97,7 @@ module _ (P : Refusal → Type 0) where
   costs None h = h
   costs (Some f) h = tt
 
-  paths : (o : Option Reading) (buffer : List ℕ) → P refusal.NoReading → P refusal.TooLong → IfErr (path_told o buffer) P
+  paths : (o : Option Reading) (buffer : List ℕ) → P refusal.NoReading → P refusal.TooLong → IfErr (written_told o buffer) P
   paths None buffer h k = h
   paths (Some f) buffer h k = either P _ (Ok (length f.moves)) (Err refusal.TooLong) tt k
 
@@ -237,7 +237,7 @@ on_draft m c log x buffer n e = absurd cc
 
 on_settled : (m : Meaning) (c : Content) (log : List Record) (x : Call) (buffer : List ℕ) (n : ℕ) → refused_with (step_answer m (settled c) log x buffer) ≡ Some n → In n (can_give x)
 on_settled m c log call.Cost buffer n e = let ks = can_give call.Cost in given number (cost_told (recorded_reading m c log)) ks n (costs (Has ks) (recorded_reading m c log) refl) e
-on_settled m c log call.Path buffer n e = let ks = can_give call.Path in given number (path_told (recorded_reading m c log) buffer) ks n (paths (Has ks) (recorded_reading m c log) buffer refl refl) e
+on_settled m c log call.Path buffer n e = let ks = can_give call.Path in given number (written_told (recorded_reading m c log) buffer) ks n (paths (Has ks) (recorded_reading m c log) buffer refl refl) e
 on_settled m c log (call.Between s q) buffer n e = let ks = can_give (call.Between s q) in given number (between_answer c log s q) ks n (betweens (Has ks) c log s q refl refl) e
 on_settled m c log (call.Check moves) buffer n e =
     let ks = can_give (call.Check moves) in
