@@ -2,16 +2,24 @@
 use Rattle.std.proofs.Common.{◌≡◌, ℕ, List, [], ◌∷◌, take, get_or, refl, sym, ◌∙◌, subst}
 use Rattle.costs.specs.Meaning.{Meaning}
 use Rattle.file.specs.Laws.{FirstBytesTell}
+use Rattle.file.specs.Load.{load_answer, load_after}
 use Rattle.report.specs.Least.{meaning_under, SettledText, FileText, loaded, declined, bytes_read, LimitNeverShows}
 
-under_kind : FirstBytesTell → (m : Meaning) (bytes text : List ℕ) → FileText m (take bytes_read bytes) text → FileText m bytes text
-under_kind tell m bytes text (loaded e s) = loaded (sym (tell m bytes).0 ∙ e) (subst (λ c. SettledText m c text) (tell m bytes).1 s)
-under_kind tell m bytes _ (declined e) = declined (sym (tell m bytes).0 ∙ e)
+-- files of which a load answers the same and leaves the same have the same text
+same_load : (m : Meaning) (a b text : List ℕ) → load_answer m a ≡ load_answer m b → load_after m a ≡ load_after m b → FileText m a text → FileText m b text
+same_load m a b text answer after (loaded e s) = loaded (sym answer ∙ e) (subst (λ c. SettledText m c text) after s)
+same_load m a b _ answer after (declined e) = declined (sym answer ∙ e)
 
 same_letter : (bytes : List ℕ) → get_or (take bytes_read bytes) 0 80 ≡ get_or bytes 0 80
 same_letter [] = refl
 same_letter (b ∷ bytes) = refl
 
 pub limit_never_shows : FirstBytesTell → LimitNeverShows
-limit_never_shows tell bytes text printed =
-    under_kind tell (meaning_under (get_or bytes 0 80)) bytes text (subst (λ (l : ℕ). FileText (meaning_under l) (take bytes_read bytes) text) (same_letter bytes) printed)
+limit_never_shows tell bytes text =
+    let first = take bytes_read bytes in
+    let m = meaning_under (get_or bytes 0 80) in
+    let h = tell m bytes in
+    let under : ℕ → Type 0 = λ (l : ℕ). FileText (meaning_under l) first text in (
+      λ p. same_load m first bytes text h.0 h.1 (subst under (same_letter bytes) p),
+      λ p. subst under (sym (same_letter bytes)) (same_load m bytes first text (sym h.0) (sym h.1) p),
+    )

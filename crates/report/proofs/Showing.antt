@@ -1,8 +1,8 @@
 -- The moves of a complete reading are by rows that are held, and what is printed of a file is one text.
-use Rattle.std.proofs.Common.{◌≡◌, ℕ, zero, suc, ◌<◌, ◌≤◌, ◌+◌, List, [], ◌∷◌, ◌++◌, map, length, take, drop, get_or, Ok, Err, Result, String, Global, string_bytes, IfOk, inl, inr, ⊎_elim, sym, refl, ap, ap₂, ◌∙◌, subst, append-nil, arith}
+use Rattle.std.proofs.Common.{◌≡◌, ℕ, zero, suc, ◌<◌, ◌≤◌, ◌+◌, Bool, true, false, leb, List, [], ◌∷◌, ◌++◌, map, length, take, drop, get_or, Ok, Err, Result, String, Global, string_bytes, IfOk, inl, inr, ⊎_elim, sym, refl, ap, ap₂, ◌∙◌, subst, append-nil, arith}
 use Rattle.std.specs.List.{All}
 use Rattle.std.proofs.lemmas.Option.{same_Some}
-use Rattle.std.proofs.lemmas.Bool.{both_ways}
+use Rattle.std.proofs.lemmas.Bool.{both_ways, leb-true, leb-false}
 use Rattle.std.proofs.lemmas.List.{append_assoc, take_more}
 use Rattle.std.proofs.Math.Seq.{take-append_seam}
 use Rattle.costs.specs.Meaning.{Meaning, Lawful}
@@ -10,17 +10,19 @@ use Rattle.board.specs.declared.row.Row.{Row}
 use Rattle.board.specs.declared.moves.Move.{Move}
 use Rattle.board.specs.declared.moves.Effect.{Effect}
 use Rattle.board.specs.declared.refusal.Refusal.{Refusal}
-use Rattle.board.specs.declared.refusal.Refusal.TheVariants.{NoReading}
+use Rattle.board.specs.declared.refusal.Refusal.TheVariants.{NoReading, TooLong}
 use Rattle.board.specs.Content.{Content, Sound}
 use Rattle.board.specs.Moves.{Place, IsMove}
 use Rattle.board.specs.Paths.{Path, stop, go}
-use Rattle.board.specs.Settling.{bare, RecordedReading}
+use Rattle.board.specs.Settling.{bare, RecordedReading, AnswersCost}
 use Rattle.board.specs.Computing.{settled_log}
 use Rattle.board.specs.Promises.{CallsKeepEaseAndSettle, RecordedIsCheapest, NoReadingBelowWorst}
 use Rattle.board.specs.Meanings.{WritesCheapest, WritingDeclined}
-use Rattle.file.specs.Load.{load_after}
+use Rattle.file.specs.Load.{load_answer, load_after}
+use Rattle.file.specs.declared.refusal.LoadFault.{LoadFault}
+use Rattle.file.specs.Parts.{PartRead}
 use Rattle.report.specs.Adding.{ByHeldRow, LinesAdded}
-use Rattle.report.specs.Least.{move_line, bad_line, no_line, cost_line, most_moves, LinesOf, none, one_more, SettledText, reading, too_long, no_reading, loaded, declined, OneFileText}
+use Rattle.report.specs.Least.{move_line, bad_line, no_line, cost_line, most_moves, LinesOf, none, one_more, SettledText, reading, too_long, no_reading, FileText, loaded, declined, OneFileText}
 
 -- what holds of a value, if there is one, follows from what does
 pub if_ok : {X E : Type 0} {P Q : X → Type 0} → ((x : X) → P x → Q x) → (r : Result X E) → IfOk r P → IfOk r Q
@@ -36,6 +38,14 @@ path_held (go g p) (suc k) d h = path_held p k d (omega (arith, h))
 map_self : (vs : List Move) → map (λ v. v) vs ≡ vs
 map_self [] = refl
 map_self (v ∷ vs) = ap (λ (ws : List Move). v ∷ ws) (map_self vs)
+
+-- the lines of moves by held rows
+held_lines : {c : Content} {vs : List Move} → All (ByHeldRow c) vs → (text : List ℕ) × LinesOf c vs text
+held_lines {vs = []} h = ([], none)
+held_lines {c} {vs = v ∷ vs} h =
+    let first = h 0 (bare 0) (omega arith) in
+    let rest = held_lines {c = c} {vs = vs} (λ k d l. h (suc k) d (omega (arith, l))) in
+    (move_line v first.by ++ rest.0, one_more first.found rest.1)
 
 -- one move's line more
 pub line_more : {c : Content} (vs : List Move) (v : Move) (r : Row) (text : List ℕ) → LinesOf c vs text → IsMove c v.row r → LinesOf c (vs ++ (v ∷ [])) (text ++ move_line v r)
@@ -69,7 +79,19 @@ module _ {m : Meaning} (laws : Lawful m) (promises : CallsKeepEaseAndSettle) {c 
   same_length : {k n : ℕ} {vs ws : List Move} → RecordedReading m c (settled_log m c) k vs → RecordedReading m c (settled_log m c) n ws → length vs ≡ length ws
   same_length {k} {n} {vs} {ws} r s = ap length (cheapest.single k n vs ws r s).1
 
-  -- a settled content has one text
+  -- the text that a settled content has
+  answered_text : {k : ℕ} → AnswersCost m c (settled_log m c) k → (text : List ℕ) × SettledText m c text
+  answered_text {k} (inl (vs, r)) = by (held_lines (path_held (cheapest.complete k vs r).path)) (leb (length vs) most_moves) refl
+    where
+      by : (text : List ℕ) × LinesOf c vs text → (b : Bool) → leb (length vs) most_moves ≡ b → (text : List ℕ) × SettledText m c text
+      by t true e = (cost_line m.letter k (length vs) ++ t.0, reading r (leb-true _ _ e) t.1)
+      by t false e = (no_line TooLong, too_long r (leb-false _ _ e))
+  answered_text (inr h) = (no_line NoReading, no_reading (cheapest.none.0 h.0))
+
+  settled_text : (text : List ℕ) × SettledText m c text
+  settled_text = answered_text cheapest.answered.1
+
+  -- it has no other
   one_settled : {a b : List ℕ} → SettledText m c a → SettledText m c b → a ≡ b
   one_settled (reading {k} {vs} {text = x} r short p) (reading {k = n} {vs = ws} {text = y} s short' q) =
       let e = cheapest.single k n vs ws r s in
@@ -117,11 +139,21 @@ told_declined {m} {c} buffer room (inr why) s is =
     let many : most_moves < length long.reading = ⊎_elim (λ h. omega (arith, h, room)) (λ h. omega (arith, h)) long.longer in
     subst (SettledText m c) (sym (is ∙ ap no_line why.0)) (too_long long.recorded many)
 
--- a file has one text
-pub one_file_text : {m : Meaning} (laws : Lawful m) (promises : CallsKeepEaseAndSettle) (bytes : List ℕ) → Sound m (load_after m bytes) → OneFileText m bytes
-one_file_text laws promises bytes sound a b (loaded e s) (loaded e' s') = one_settled laws promises sound s s'
-one_file_text laws promises bytes sound a b (loaded e s) (declined e') = absurd (cc (e, e'))
-one_file_text laws promises bytes sound a b (declined e) (loaded e' s') = absurd (cc (e, e'))
-one_file_text laws promises bytes sound a b (declined {fault = x} e) (declined {fault = y} e') =
+-- the text that a file has
+file_text : {m : Meaning} (laws : Lawful m) (promises : CallsKeepEaseAndSettle) (bytes : List ℕ) → Sound m (load_after m bytes) → (o : Result PartRead LoadFault) → load_answer m bytes ≡ o → (text : List ℕ) × FileText m bytes text
+file_text laws promises bytes sound (Ok note) e = let t = settled_text laws promises sound in (t.0, loaded e t.1)
+file_text laws promises bytes sound (Err fault) e = (bad_line fault, declined e)
+
+-- it has no other
+same_file_text : {m : Meaning} (laws : Lawful m) (promises : CallsKeepEaseAndSettle) (bytes : List ℕ) → Sound m (load_after m bytes) → (a b : List ℕ) → FileText m bytes a → FileText m bytes b → a ≡ b
+same_file_text laws promises bytes sound a b (loaded e s) (loaded e' s') = one_settled laws promises sound s s'
+same_file_text laws promises bytes sound a b (loaded e s) (declined e') = absurd (cc (e, e'))
+same_file_text laws promises bytes sound a b (declined e) (loaded e' s') = absurd (cc (e, e'))
+same_file_text laws promises bytes sound a b (declined {fault = x} e) (declined {fault = y} e') =
     let same : x ≡ y = cc (e, e') in
     ap bad_line same
+
+pub one_file_text : {m : Meaning} (laws : Lawful m) (promises : CallsKeepEaseAndSettle) (bytes : List ℕ) → Sound m (load_after m bytes) → OneFileText m bytes
+one_file_text {m} laws promises bytes sound =
+    let t = file_text laws promises bytes sound (load_answer m bytes) refl in
+    record { text = t.0; printed = t.1; only = λ other p. same_file_text laws promises bytes sound other t.0 p t.1 }

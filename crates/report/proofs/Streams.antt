@@ -13,4 +13,4 @@ first_read (Some xs) limit new old most empty read = read ∙ ap (λ (l : List �
 pub all_told : LimitNeverShows → {X E : Type 0} (r : Result X E) (input old new : Option (List ℕ)) (read lines : List ℕ) → OnOk r (Appends old new lines) → LeastText read lines → IfSome input (λ xs. read ≡ take bytes_read xs) → OnOk r (IfSome input (λ xs. LeastWritten xs old new))
 all_told limit (Err e) input old new read lines wrote made first = tt
 all_told limit (Ok x) None old new read lines wrote made first = tt
-all_told limit (Ok x) (Some xs) old new read lines wrote made first = record { text = lines; printed = limit xs lines (subst (λ (bs : List ℕ). LeastText bs lines) first made); added = wrote }
+all_told limit (Ok x) (Some xs) old new read lines wrote made first = record { text = lines; printed = (limit xs lines).0 (subst (λ (bs : List ℕ). LeastText bs lines) first made); added = wrote }

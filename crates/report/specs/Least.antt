@@ -1,5 +1,5 @@
 -- What `least` prints of a file: a relation, by what load answers and which reading is the recorded one.
-use Rattle.std.specs.Prelude.{◌≡◌, ℕ, ◌<◌, ◌≤◌, cond, ◌==◌, List, [], ◌∷◌, ◌++◌, length, take, Some, None, Ok, Err, codes, decimal, Option, slice_index_or}
+use Rattle.std.specs.Prelude.{◌≡◌, ℕ, ◌<◌, ◌≤◌, ◌↔◌, cond, ◌==◌, List, [], ◌∷◌, ◌++◌, length, take, Some, None, Ok, Err, codes, decimal, Option, slice_index_or}
 use Rattle.std.proofs.Math.Utf8.{encode}
 use Rattle.std.specs.Io.KnownBytes.{Appends}
 use Rattle.costs.specs.Meaning.{Meaning}
@@ -66,15 +66,17 @@ pub data FileText (m : Meaning) (bytes : List ℕ) : List ℕ → Type 0 where
   loaded : {note : PartRead} {text : List ℕ} → load_answer m bytes ≡ Ok note → SettledText m (load_after m bytes) text → FileText m bytes text
   declined : {fault : LoadFault} → load_answer m bytes ≡ Err fault → FileText m bytes (bad_line fault)
 
--- what is printed of a file under a kind is one text: any two are the same
-abbrev pub OneFileText : Meaning → List ℕ → Type 0
-OneFileText m bytes = (a b : List ℕ) → FileText m bytes a → FileText m bytes b → a ≡ b
+-- Under a kind, just one text is printed of a file.
+pub record OneFileText (m : Meaning) (bytes : List ℕ) : Type 0 where
+  pub text : List ℕ
+  pub printed : FileText m bytes text
+  pub only : (other : List ℕ) → FileText m bytes other → other ≡ text
 
 -- What `least` prints: the file under the kind of its first byte's letter; an empty one under points (80 is P).
 abbrev pub LeastText : List ℕ → List ℕ → Type 0
 LeastText bytes text = FileText (meaning_under (slice_index_or bytes 0 80)) bytes text
 
--- that is one text: any two are the same
+-- that is just one text
 abbrev pub OneText : List ℕ → Type 0
 OneText bytes = OneFileText (meaning_under (slice_index_or bytes 0 80)) bytes
 
@@ -90,4 +92,4 @@ bytes_read = telling
 
 -- That limit never shows: what is printed of a file's first bytes, so many, is what is printed of all of it.
 abbrev pub LimitNeverShows : Type 0
-LimitNeverShows = (bytes text : List ℕ) → LeastText (take bytes_read bytes) text → LeastText bytes text
+LimitNeverShows = (bytes text : List ℕ) → LeastText (take bytes_read bytes) text ↔ LeastText bytes text
