@@ -1,8 +1,6 @@
 // What a move names, whether that starts at a place, and where it leads.
 ghost use Rattle.std.specs.Prelude.{◌≡◌};
-ghost use Rattle.std.specs.List.{slice_get};
 ghost use Rattle.board.specs.Held.{held};
-ghost use Rattle.board.specs.Moves.{end_moment?};
 ghost use Rattle.board.specs.Arrivals.{named, starts_at, arrival_by, arrival_on};
 
 use crate::moves::{Arrival, Move, Place};
