@@ -2,7 +2,6 @@
 ghost use Rattle.std.specs.Prelude.{◌≡◌, [], Some};
 ghost use Rattle.board.specs.Held.{held};
 ghost use Rattle.board.specs.Checks.{bracketed, before_moves, take_named, take_move};
-ghost use Rattle.board.specs.Moves.{is_end};
 ghost use Rattle.board.specs.Checkers.{unclosed_of, progress_of, left};
 
 use crate::bounds::OPEN_BRACKETS;
@@ -27,15 +26,6 @@ pub(crate) struct Checker {
     brackets: OpenBrackets,
     ended: bool,
     cost: u32,
-}
-
-impl Effect {
-    // Whether it ends the reading.
-    pub(crate) fn is_end(self) -> bool
-        ensures { result ≡ is_end self }
-    {
-        matches!(self, Effect::Ends)
-    }
 }
 
 impl OpenBrackets {

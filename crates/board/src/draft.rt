@@ -1,14 +1,20 @@
-// A board that is being filled.
+// A board that is being filled, and then settled.
 ghost use Rattle.std.specs.Prelude.{◌≡◌, length};
 ghost use Rattle.board.specs.Refusals.{answer};
 ghost use Rattle.board.specs.Content.{new, Sound};
 ghost use Rattle.board.specs.Calls.{size_fault, size_after, row_fault, row_after, line_fault, line_after, reprice_fault, reprice_row_after, reprice_line_after, without_lines};
 ghost use Rattle.board.specs.Held.{draft_content};
-ghost use Rattle.board.specs.Promises.{CallsKeepEaseAndSettle};
+ghost use Rattle.board.specs.Boards.{settled_content, settled_records};
+ghost use Rattle.board.specs.Settling.{SettledLog};
+ghost use Rattle.board.specs.Promises.{RecordsAreLeast, RecordedIsCheapest, CallsKeepEaseAndSettle};
+ghost use Rattle.board.specs.Computing.{settled_log};
+ghost use Rattle.board.specs.Examples.{SettlingExamples};
 
 use crate::bounds::PLACES;
 use crate::refusal::Refusal;
 use crate::row::{Line, Row};
+use crate::settled::Settled;
+use crate::settling::settled_log;
 use crate::tables::Tables;
 use costs::Kind;
 
@@ -122,6 +128,21 @@ impl<K: Kind> Draft<K> {
         let n = self.tables.lines.len();
         self.tables.clear_lines();
         n
+    }
+
+    // Settles the board: for every pair of places the record that the rounds reach.
+    pub fn settle(self) -> Settled<K>
+        ensures content { settled_content result ≡ draft_content self }
+        ensures records { SettledLog K.meaning (draft_content self) (settled_records result) }
+        ensures computed { settled_records result ≡ settled_log K.meaning (draft_content self) }
+        ensures promises { CallsKeepEaseAndSettle }
+        ensures example { SettlingExamples }
+        ensures least { RecordsAreLeast K.meaning (draft_content self) (settled_records result) }
+        ensures cheapest { RecordedIsCheapest K.meaning (draft_content self) (settled_records result) }
+    {
+        let tables = self.tables;
+        let log = settled_log(&tables);
+        Settled { tables, log }
     }
 }
 

@@ -9,7 +9,6 @@ mod draft;
 mod log;
 mod moves;
 mod named;
-mod packing;
 mod reading;
 mod refusal;
 mod row;

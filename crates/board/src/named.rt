@@ -1,12 +1,10 @@
 // What a move names, whether that starts at a place, and where it leads.
 ghost use Rattle.std.specs.Prelude.{◌≡◌};
-ghost use Rattle.std.specs.List.{slice_get};
 ghost use Rattle.board.specs.Held.{held};
-ghost use Rattle.board.specs.Moves.{effect, end_moment?};
-ghost use Rattle.board.specs.Arrivals.{takes_line, named, timely, starts_at, arrival_by, arrival_on};
+ghost use Rattle.board.specs.Arrivals.{named, starts_at, arrival_by, arrival_on};
 
-use crate::moves::{Arrival, Effect, Move, Place};
-use crate::row::{Line, Row, RowKind};
+use crate::moves::{Arrival, Move, Place};
+use crate::row::{Line, Row};
 use crate::tables::Tables;
 use costs::Kind;
 
@@ -15,40 +13,6 @@ use costs::Kind;
 pub(crate) struct Named {
     row: Row,
     line: Option<Line>,
-}
-
-impl Row {
-    // Whether it goes with a line: a plain row with an event.
-    pub(crate) fn takes_line(&self) -> bool
-        ensures { result ≡ takes_line self.now.kind self.now.label }
-    {
-        match self.kind {
-            RowKind::Plain => self.label != 0,
-            RowKind::Open | RowKind::Close | RowKind::End => false,
-        }
-    }
-
-    // What it does to the brackets.
-    pub(crate) fn effect(&self) -> Effect
-        ensures { result ≡ effect self.now }
-    {
-        match self.kind {
-            RowKind::Plain => Effect::Quiet,
-            RowKind::Open => Effect::Opens(self.label),
-            RowKind::Close => Effect::Closes(self.label),
-            RowKind::End => Effect::Ends,
-        }
-    }
-
-    // Whether it may stand at the moment: an end row at the last one only.
-    fn timely(&self, moments: u8, moment: u8) -> bool
-        ensures { result ≡ timely self.now.kind moments moment }
-    {
-        match self.kind {
-            RowKind::Plain | RowKind::Open | RowKind::Close => true,
-            RowKind::End => moment as u16 + 1 == moments as u16,
-        }
-    }
 }
 
 impl Named {

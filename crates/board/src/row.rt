@@ -4,7 +4,12 @@ ghost use Rattle.std.specs.Option.{ok_or};
 ghost use Rattle.std.proofs.Common.{rules};
 ghost use Rattle.board.specs.Calls.{row_at_cost, line_at_cost};
 ghost use Rattle.board.specs.Rows.{kind_number, kind_of_number, formed, zero_row, zero_line};
+ghost use Rattle.board.specs.Moves.{effect};
+ghost use Rattle.board.specs.Arrivals.{takes_line, timely};
+ghost use Rattle.board.specs.Winning.{is_close, closes_from, closes_to};
+ghost use Rattle.board.specs.Minima.{sort_like};
 
+use crate::moves::Effect;
 use values::{ExactClone, ExactEq};
 
 // What a row does. The numbers are those of the file format.
@@ -121,6 +126,73 @@ impl Row {
             RowKind::End => self.label == 0 && self.action == 0 && self.from == self.to,
         }
     }
+
+    // Whether it goes with a line: a plain row with an event.
+    pub(crate) fn takes_line(&self) -> bool
+        ensures { result ≡ takes_line self.now.kind self.now.label }
+    {
+        match self.kind {
+            RowKind::Plain => self.label != 0,
+            RowKind::Open | RowKind::Close | RowKind::End => false,
+        }
+    }
+
+    // What it does to the brackets.
+    pub(crate) fn effect(&self) -> Effect
+        ensures { result ≡ effect self.now }
+    {
+        match self.kind {
+            RowKind::Plain => Effect::Quiet,
+            RowKind::Open => Effect::Opens(self.label),
+            RowKind::Close => Effect::Closes(self.label),
+            RowKind::End => Effect::Ends,
+        }
+    }
+
+    // Whether it may stand at the moment: an end row at the last one only.
+    pub(crate) fn timely(&self, moments: u8, moment: u8) -> bool
+        ensures { result ≡ timely self.now.kind moments moment }
+    {
+        match self.kind {
+            RowKind::Plain | RowKind::Open | RowKind::Close => true,
+            RowKind::End => moment as u16 + 1 == moments as u16,
+        }
+    }
+
+    // Whether it is a close row.
+    pub(crate) fn is_close(&self) -> bool
+        ensures { result ≡ is_close self.now.kind }
+    {
+        match self.kind {
+            RowKind::Close => true,
+            RowKind::Plain | RowKind::Open | RowKind::End => false,
+        }
+    }
+
+    // Whether it closes the bracket, from the mode.
+    pub(crate) fn closes_from(&self, bracket: u8, mode: u8) -> bool
+        ensures { result ≡ closes_from self.now bracket mode }
+    {
+        self.is_close() && self.label == bracket && self.from == mode
+    }
+
+    // Whether it closes the bracket and leads to the mode.
+    pub(crate) fn closes_to(&self, bracket: u8, mode: u8) -> bool
+        ensures { result ≡ closes_to self.now bracket mode }
+    {
+        self.is_close() && self.label == bracket && self.to == mode
+    }
+
+    // Whether both are of one kind, lead from and to the same modes, and have the same label.
+    pub(crate) fn sort_like(&self, other: &Row) -> bool
+        ensures { result ≡ sort_like self.now other.now }
+    {
+        self.kind.number() == other.kind.number()
+            && self.from == other.from
+            && self.to == other.to
+            && self.label == other.label
+    }
+
     // Sets its cost, and nothing else of it.
     pub(crate) fn set_cost(&mut self, cost: u32)
         ensures { self.new ≡ row_at_cost cost self.old }

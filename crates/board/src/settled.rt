@@ -11,14 +11,14 @@ use costs::Kind;
 
 mod questions;
 mod reading;
+mod reopen;
 mod rows;
-mod settle;
 
 // A settled board whose costs are of the kind K.
 #[derive(Drop)]
 pub struct Settled<K: Kind> {
-    tables: Tables<K>,
-    log: Log,
+    pub(crate) tables: Tables<K>,
+    pub(crate) log: Log,
     ghost book: { Book K.meaning (held tables) log } by { Book-prop _ _ _ },
     ghost settled: { records log ≡ settled_log K.meaning (held tables) },
 }

@@ -9,7 +9,6 @@ use crate::tables::Tables;
 use costs::Kind;
 
 mod candidates;
-mod closing;
 mod first_call;
 mod first_step;
 mod leads;

@@ -2,24 +2,12 @@
 ghost use Rattle.std.specs.Prelude.{◌≡◌, length, Some as ASome};
 ghost use Rattle.board.specs.Moves.{move_row};
 ghost use Rattle.board.specs.Held.{held};
-ghost use Rattle.board.specs.Minima.{sort_like, StandsFor, Led};
+ghost use Rattle.board.specs.Minima.{StandsFor, Led};
 
 use crate::bounds::ROWS;
 use crate::row::Row;
 use crate::tables::Tables;
 use costs::Kind;
-
-impl Row {
-    // Whether both are of one kind, lead from and to the same modes, and have the same label.
-    fn sort_like(&self, other: &Row) -> bool
-        ensures { result ≡ sort_like self.now other.now }
-    {
-        self.kind.number() == other.kind.number()
-            && self.from == other.from
-            && self.to == other.to
-            && self.label == other.label
-    }
-}
 
 impl<K: Kind> Tables<K> {
     // The cheapest of the rows of the sort of r, which is row n; the last of them where some tie. So each row of a sort gives
