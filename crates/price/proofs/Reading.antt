@@ -3,10 +3,10 @@ use Rattle.std.proofs.Common.{◌≡◌, ℕ, ◌+◌, ◌<◌, List, [], ◌∷
 use Rattle.std.specs.Option.{ok_or}
 use Rattle.std.specs.Borrow.{Bor}
 use Rattle.std.proofs.lemmas.List.{drop_more}
-use Rattle.words.specs.Numbers.{number_of}
+use Rattle.words.specs.Numbers.{u32_max, number_of}
 use Rattle.price.specs.declared.answer.LineFault.{LineFault}
 use Rattle.price.specs.declared.answer.LineFault.TheVariants.{Unreadable}
-use Rattle.price.specs.Lines.{largest, read_first, read_costs}
+use Rattle.price.specs.Lines.{read_first, read_costs}
 use Rattle.price.specs.Unread.{FirstUnread}
 
 -- numbers that were read, before what is read after them
@@ -20,13 +20,13 @@ one_number ns w n (Err v) = refl
 
 -- one word of the list
 module _ (ws : List (List ℕ)) (i : ℕ) (within : i < length ws) (ns : List ℕ) where
-  pub number_next : (n : ℕ) → number_of largest (get_or ws i []) ≡ Some n → after (ns ++ (n ∷ [])) (read_costs (drop (i + 1) ws)) ≡ after ns (read_costs (drop i ws))
+  pub number_next : (n : ℕ) → number_of u32_max (get_or ws i []) ≡ Some n → after (ns ++ (n ∷ [])) (read_costs (drop (i + 1) ws)) ≡ after ns (read_costs (drop i ws))
   number_next n e =
       one_number ns (get_or ws i []) n (read_costs (drop (i + 1) ws))
       ∙ ap (λ o. after ns (read_first (get_or ws i []) o (read_costs (drop (i + 1) ws)))) (sym e)
       ∙ sym (ap (λ vs. after ns (read_costs vs)) (drop_more ws i [] within))
 
-  pub number_stop : number_of largest (get_or ws i []) ≡ None → after ns (read_costs (drop i ws)) ≡ Err (get_or ws i [])
+  pub number_stop : number_of u32_max (get_or ws i []) ≡ None → after ns (read_costs (drop i ws)) ≡ Err (get_or ws i [])
   number_stop e =
       ap (λ vs. after ns (read_costs vs)) (drop_more ws i [] within)
       ∙ ap (λ o. after ns (read_first (get_or ws i []) o (read_costs (drop (i + 1) ws)))) e

@@ -4,9 +4,9 @@ use Rattle.std.proofs.lemmas.Fmt.{decimal_nonempty}
 use Rattle.std.proofs.lemmas.Bool.{cond-false, and_parts, or_from, ne_eqb, leb-true}
 use Rattle.std.proofs.lemmas.Bool.Decides.{nat_tests}
 use Rattle.costs.specs.Meaning.{Meaning}
-use Rattle.words.specs.Numbers.{is_digit, all_digits}
+use Rattle.words.specs.Numbers.{is_digit, all_digits, u32_max}
 use Rattle.words.specs.Pieces.{spacing, pieces_of, NoSeparator}
-use Rattle.price.specs.Lines.{without_return, largest, kind_with_letter, read_first, read_costs, costs_answer, kind_answer, words_answer, written_costs, Of32Bits, CostsReadBack}
+use Rattle.price.specs.Lines.{without_return, kind_with_letter, read_first, read_costs, costs_answer, kind_answer, words_answer, written_costs, Of32Bits, CostsReadBack}
 use Rattle.words.specs.Laws.{WordLaws}
 
 -- a carriage return
@@ -55,7 +55,7 @@ module _ (laws : WordLaws) where
   written_numbers : (xs : List ℕ) → Of32Bits xs → read_costs (map decimal xs) ≡ Ok xs
   written_numbers [] small = refl
   written_numbers (x ∷ xs) small =
-      ap (λ o. read_first (decimal x) o (read_costs (map decimal xs))) (laws.numbers_back largest (omega arith) x (omega (arith, small.0)))
+      ap (λ o. read_first (decimal x) o (read_costs (map decimal xs))) (laws.numbers_back u32_max (omega arith) x (omega (arith, small.0)))
       ∙ ap (read_first (decimal x) (Some x)) (written_numbers xs small.1)
 
   pub reads_written : CostsReadBack

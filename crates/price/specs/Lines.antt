@@ -5,7 +5,7 @@ use Rattle.std.specs.Option.{option_map}
 use Rattle.costs.specs.Meaning.{Meaning}
 use Rattle.costs.specs.Lists.{join_answer}
 use Rattle.costs.specs.Names.{meaning_of, letter_of, kind_by_letter}
-use Rattle.words.specs.Numbers.{number_of}
+use Rattle.words.specs.Numbers.{u32_max, number_of}
 use Rattle.words.specs.Pieces.{spacing, pieces_of}
 use Rattle.price.specs.declared.answer.Total.{Total}
 use Rattle.price.specs.declared.answer.LineFault.{LineFault}
@@ -40,10 +40,6 @@ kind_of [] = None
 kind_of (l ∷ []) = kind_with_letter l
 kind_of (l ∷ b ∷ bs) = None
 
--- the largest number that a cost is written as
-abbrev pub largest : ℕ
-largest = 4294967295
-
 -- the first word's number before those of the words after it
 abbrev pub read_first : List ℕ → Option ℕ → Result (List ℕ) (List ℕ) → Result (List ℕ) (List ℕ)
 read_first w None rest = Err w
@@ -53,7 +49,7 @@ read_first w (Some n) (Err v) = Err v
 -- the words' numbers, or the first word that is no number
 abbrev pub read_costs : List (List ℕ) → Result (List ℕ) (List ℕ)
 read_costs [] = Ok []
-read_costs (w ∷ ws) = read_first w (number_of largest w) (read_costs ws)
+read_costs (w ∷ ws) = read_first w (number_of u32_max w) (read_costs ws)
 
 -- what joining answered: the joined cost, or the word of the first number that is no cost
 abbrev pub joined_or_not_a_cost : Meaning → List (List ℕ) → Result ℕ ℕ → LineAnswer

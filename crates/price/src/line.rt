@@ -9,10 +9,7 @@ ghost use Rattle.price.specs.Lines.{without_return, kind_of, read_costs, answer_
 use crate::answer::{LineAnswer, LineFault, Total};
 use costs::{KindName, Points, Rank, Severity, join_all};
 use std::alloc::Global;
-use words::{Spacing, number, pieces, word_theorems};
-
-// The largest number that a cost is written as.
-const LARGEST: u64 = u32::MAX as u64;
+use words::{Spacing, U32_MAX, number, pieces, word_theorems};
 
 // The line without a carriage return at its end.
 fn without_return(line: &[u8]) -> &[u8]
@@ -38,7 +35,7 @@ fn numbers<'a>(heap: Global, words: &[&'a [u8]]) -> Result<Vec<u32>, LineFault<'
 {
     let mut numbers = Vec::new(heap);
     for word in words {
-        let n = number(word, LARGEST).ok_or(LineFault::Unreadable(word))?;
+        let n = number(word, U32_MAX).ok_or(LineFault::Unreadable(word))?;
         numbers.push(n as u32)?;
     }
     Ok(numbers)

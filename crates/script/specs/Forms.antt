@@ -1,15 +1,11 @@
 -- The forms of calls: what the words after a call's name say.
 use Rattle.std.specs.Prelude.{ℕ, List, [], ◌∷◌, Some, None, Option, slice_index}
 use Rattle.std.specs.Option.{option_map, option_and_then}
-use Rattle.words.specs.Numbers.{numbers_of}
+use Rattle.words.specs.Numbers.{u8_max, u32_max, numbers_of}
 use Rattle.words.specs.Hex.{bytes_of}
 use Rattle.costs.specs.Names.{kind_by_letter}
 use Rattle.board.specs.Rows.{kind_of_number}
 use Rattle.script.specs.Commands.{Command, kind, size, row, line, reprice_row, reprice_line, load, path, between}
-
--- the largest number of 32 bits
-abbrev pub widest : ℕ
-widest = 4294967295
 
 -- the largest length of a buffer or of a list of moves
 abbrev pub longest_list : ℕ
@@ -17,13 +13,13 @@ longest_list = 1048576
 
 -- the limits of two numbers of 32 bits, of a row's numbers and of a line's
 abbrev pub two_wide : List ℕ
-two_wide = widest ∷ widest ∷ []
+two_wide = u32_max ∷ u32_max ∷ []
 
 abbrev pub row_limits : List ℕ
-row_limits = 255 ∷ 255 ∷ 255 ∷ 255 ∷ 255 ∷ widest ∷ []
+row_limits = u8_max ∷ u8_max ∷ u8_max ∷ u8_max ∷ u8_max ∷ u32_max ∷ []
 
 abbrev pub line_limits : List ℕ
-line_limits = 255 ∷ 255 ∷ 255 ∷ widest ∷ []
+line_limits = u8_max ∷ u8_max ∷ u8_max ∷ u32_max ∷ []
 
 -- a call with no words after its name
 abbrev pub alone_call : Command → List (List ℕ) → Option Command

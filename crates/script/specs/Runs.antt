@@ -2,10 +2,10 @@
 use Rattle.std.specs.Prelude.{ℕ, cond, List, [], ◌∷◌, ◌++◌, length, replicate, Some, None, codes, Option, nat_le}
 use Rattle.std.specs.Option.{option_map}
 use Rattle.words.specs.Hex.{hex_number_of}
-use Rattle.words.specs.Numbers.{number_of}
+use Rattle.words.specs.Numbers.{u32_max, number_of}
 use Rattle.words.specs.Splits.{split_of}
 use Rattle.script.specs.Commands.{Command, check}
-use Rattle.script.specs.Forms.{widest, longest_list}
+use Rattle.script.specs.Forms.{longest_list}
 use Rattle.script.specs.declared.check.Run.{Run}
 
 -- a number so many times
@@ -17,7 +17,7 @@ run_from (Some number) (Some times) = Some (record { number = number; times = ti
 -- a word that is split at its star, or has none
 abbrev pub split_run : List ℕ → Option (List ℕ × List ℕ) → Option Run
 split_run w None = run_from (hex_number_of w) (Some 1)
-split_run w (Some p) = run_from (hex_number_of p.0) (number_of widest p.1)
+split_run w (Some p) = run_from (hex_number_of p.0) (number_of u32_max p.1)
 
 abbrev pub run_of : List ℕ → Option Run
 run_of w = split_run w (split_of (codes "*") w)

@@ -4,9 +4,9 @@ ghost use Rattle.script.specs.Reads.{read_of};
 ghost use Rattle.script.specs.Runs.{run_of, moves_of};
 
 use crate::error::ParseError;
-use crate::limits::{LONGEST_LIST, WIDEST};
+use crate::limits::LONGEST_LIST;
 use std::alloc::Global;
-use words::{hex_u16, number, split_once};
+use words::{U32_MAX, hex_u16, number, split_once};
 
 // A number so many times.
 #[derive(Clone, Copy)]
@@ -20,7 +20,7 @@ fn read_run(word: &[u8]) -> Option<Run>
     ensures { result ≡ run_of word.now }
 {
     let (hex, times) = match split_once(word, b"*") {
-        Some((hex, times)) => (hex, number(times, WIDEST)? as u32),
+        Some((hex, times)) => (hex, number(times, U32_MAX)? as u32),
         None => (word, 1),
     };
     let number = hex_u16(hex)?;

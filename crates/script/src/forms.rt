@@ -11,12 +11,12 @@ ghost use Rattle.script.specs.Script.{call_of};
 use crate::check::moves;
 use crate::command::Command;
 use crate::error::ParseError;
-use crate::limits::{BYTE, LONGEST_LIST, WIDEST};
+use crate::limits::LONGEST_LIST;
 use crate::name::Name;
 use board::{Line, Row, RowKind};
 use costs::KindName;
 use std::alloc::Global;
-use words::{hex_byte_pairs, numbers};
+use words::{U8_MAX, U32_MAX, hex_byte_pairs, numbers};
 
 // The call, where no words follow its name.
 fn alone(command: Command, words: &[&[u8]]) -> Option<Command>
@@ -40,7 +40,7 @@ fn kind(words: &[&[u8]]) -> Option<Command>
 fn two(words: &[&[u8]]) -> Option<(u32, u32)>
     ensures { result ≡ option_map (λ ns. (slice_index ns 0, slice_index ns 1)) (numbers_of two_wide (map (λ x. x.now) words.now)) }
 {
-    let [first, second] = numbers(words, [WIDEST, WIDEST])?;
+    let [first, second] = numbers(words, [U32_MAX, U32_MAX])?;
     Some((first as u32, second as u32))
 }
 
@@ -50,7 +50,7 @@ fn add_row(words: &[&[u8]]) -> Option<Command>
 {
     let [kind, from, to, label, action, cost] = numbers(
         words,
-        [BYTE, BYTE, BYTE, BYTE, BYTE, WIDEST],
+        [U8_MAX, U8_MAX, U8_MAX, U8_MAX, U8_MAX, U32_MAX],
     )?;
     Some(Command::AddRow(Row {
         kind: RowKind::try_from(kind as u8).ok()?,
@@ -66,7 +66,7 @@ fn add_row(words: &[&[u8]]) -> Option<Command>
 fn add_line(words: &[&[u8]]) -> Option<Command>
     ensures { option_map command_of result ≡ line_call (map (λ x. x.now) words.now) }
 {
-    let [from, to, event, cost] = numbers(words, [BYTE, BYTE, BYTE, WIDEST])?;
+    let [from, to, event, cost] = numbers(words, [U8_MAX, U8_MAX, U8_MAX, U32_MAX])?;
     Some(Command::AddLine(Line {
         from: from as u8,
         to: to as u8,

@@ -14,6 +14,14 @@ all_digits bs = list_all is_digit bs
 abbrev pub read_on : ℕ → List ℕ → ℕ
 read_on n bs = fold (λ n b. 10 * n + (b - 48)) n bs
 
+-- the largest number of 8 bits
+abbrev pub u8_max : ℕ
+u8_max = 255
+
+-- the largest number of 32 bits
+abbrev pub u32_max : ℕ
+u32_max = 4294967295
+
 -- one or more digits, and nothing else, that write a number of at most the limit
 abbrev pub is_number : ℕ → List ℕ → Bool
 is_number limit w = nat_lt 0 (length w) && (all_digits w && nat_le (read_on 0 w) limit)

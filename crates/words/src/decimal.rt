@@ -3,6 +3,12 @@ ghost use Rattle.std.specs.Prelude.{◌≡◌, ◌≤◌, map, IfSome};
 ghost use Rattle.words.specs.Digits.{after_digit};
 ghost use Rattle.words.specs.Numbers.{number_of, numbers_of, Within, DecimalReadsBack};
 
+// The largest number of 8 bits.
+pub const U8_MAX: u64 = u8::MAX as u64;
+
+// The largest number of 32 bits.
+pub const U32_MAX: u64 = u32::MAX as u64;
+
 // The number that n becomes with one more digit, where the byte is a digit and the number is at most `most`.
 fn with_digit(n: u64, byte: u8, most: u64) -> Option<u64>
     ensures { result ≡ after_digit most n byte }

@@ -9,7 +9,7 @@ mod theorems;
 mod trim;
 
 pub use cut::{Newline, Separator, Spacing, pieces};
-pub use decimal::{number, numbers};
+pub use decimal::{U8_MAX, U32_MAX, number, numbers};
 pub use hexadecimal::{hex_byte_pairs, hex_u16, push_hex_bytes, push_hex_u16};
 pub use split::split_once;
 pub use theorems::word_theorems;
