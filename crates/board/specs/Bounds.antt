@@ -21,6 +21,6 @@ most_open = 4096
 abbrev pub many_moves : ℕ
 many_moves = 65536
 
--- moves that path writes, at most
+-- moves of a reading that is written into a buffer, at most
 abbrev pub most_written : ℕ
 most_written = 65535

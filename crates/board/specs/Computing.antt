@@ -10,7 +10,7 @@ use Rattle.board.specs.declared.moves.Effect.{Effect}
 use Rattle.board.specs.declared.moves.Effect.TheVariants.{Quiet, Opens, Closes, Ends}
 use Rattle.board.specs.declared.moves.Arrival.{Arrival}
 use Rattle.board.specs.Content.{Content}
-use Rattle.board.specs.Moves.{Place, mode, moment, place_number, is_end, move_row}
+use Rattle.board.specs.Moves.{Place, mode, moment, place_number, is_end}
 use Rattle.board.specs.Arrivals.{arrival_on}
 use Rattle.board.specs.Settling.{Record, bare, step_record, call_record, diagonal, key}
 
@@ -181,16 +181,11 @@ unfoldable pub best_moments : Meaning → Content → List Record → ℕ → �
 best_moments m c log i n zero b = b
 best_moments m c log i n (suc t) b = better m (best_moments m c log i n t b) (reading_at m c log i (n, t))
 
--- the mode that a row leaves
-abbrev pub mode_left : Option Row → ℕ
-mode_left None = 0
-mode_left (Some r) = r.from
-
--- the best of the readings by the rows below n
-unfoldable pub best_rows : Meaning → Content → List Record → ℕ → Option Reading
-best_rows m c log zero = None
-best_rows m c log (suc n) = best_moments m c log n (mode_left (move_row c n)) c.moments (best_rows m c log n)
+-- the best of b and the readings by these rows, of which the first is row i
+unfoldable pub best_rows : Meaning → Content → List Record → ℕ → List Row → Option Reading → Option Reading
+best_rows m c log i [] b = b
+best_rows m c log i (r ∷ rs) b = best_rows m c log (suc i) rs (best_moments m c log i r.from c.moments b)
 
 -- the recorded reading of a log, if it has one
 unfoldable pub recorded_reading : Meaning → Content → List Record → Option Reading
-recorded_reading m c log = best_rows m c log (length c.rows)
+recorded_reading m c log = best_rows m c log 0 c.rows None

@@ -26,7 +26,7 @@ pub mod Arrivals
 pub mod Checks
 -- The settled log and the recorded reading: as `SettledLog` and `RecordedReading` of Settling say, by `Computed` of Promises.
 pub mod Computing
--- What between, cost and path answer: by `BetweenIsLeast`, `CostIsCheapest` and `PathWritesCheapest` of Meanings.
+-- What between, cost, path and moves answer: by `BetweenIsLeast`, `CostIsCheapest` and `WritesCheapestReading` of Meanings.
 pub mod Questions
 -- A worked example, computed by them.
 pub mod Examples

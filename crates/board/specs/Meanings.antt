@@ -29,8 +29,8 @@ CostIsCheapest m c log (Ok a) = CheapestReading m c log a.0 a.1
 CostIsCheapest m c log (Err e) = (e ≡ NoReading) × NoReadingBelowWorst m c
 
 -- What an answered number n and the buffer after it mean: the recorded reading is complete, no complete reading is
--- cheaper, it has n moves, for which there was room, they stand at the front of the buffer, each in its form, whose rest is as
--- it was, and the check accepts them packed at the reading's cost.
+-- cheaper, it has n moves, for which there was room, they stand in this form at the front of the buffer, whose rest is as it
+-- was, and the check accepts them, packed, at the reading's cost.
 pub record WritesCheapest {A : Type 0} (form : Move → A) (m : Meaning) (c : Content) (log : List Record) (buffer : List A) (n : ℕ) (after : List A) : Type 0 where
   pub cost : ℕ
   pub reading : List Move

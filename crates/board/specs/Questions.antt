@@ -43,19 +43,25 @@ abbrev pub moves_written : {A : Type 0} → (Move → A) → Option Reading → 
 moves_written form None buffer = buffer
 moves_written form (Some f) buffer = cond (fits f buffer) (map form f.moves ++ drop (length f.moves) buffer) buffer
 
--- Path and moves: each writes the recorded reading's moves in order to the front of the buffer and answers how many, unless
--- they are more than the buffer holds or than 65,535.
-abbrev pub path_answer : {A : Type 0} → Meaning → Content → List Record → List A → Result ℕ Refusal
-path_answer m c log buffer = written_told (recorded_reading m c log) buffer
+-- The recorded reading's moves are written in order to the front of a buffer, each in a form: how many they are, unless they
+-- are more than the buffer holds or than 65,535,
+abbrev pub reading_answer : {A : Type 0} → Meaning → Content → List Record → List A → Result ℕ Refusal
+reading_answer m c log buffer = written_told (recorded_reading m c log) buffer
 
--- the buffer with the recorded reading's moves, each in a form
+-- and the buffer afterwards
 abbrev pub reading_after : {A : Type 0} → (Move → A) → Meaning → Content → List Record → List A → List A
 reading_after form m c log buffer = moves_written form (recorded_reading m c log) buffer
 
--- the buffer after path: the moves stand there packed
+-- Path: writes them packed, and answers how many.
+abbrev pub path_answer : Meaning → Content → List Record → List ℕ → Result ℕ Refusal
+path_answer m c log buffer = reading_answer m c log buffer
+
 abbrev pub path_after : Meaning → Content → List Record → List ℕ → List ℕ
 path_after m c log buffer = reading_after packed m c log buffer
 
--- the buffer after moves: they stand there themselves
+-- Moves: writes the moves themselves, and answers how many.
+abbrev pub moves_answer : Meaning → Content → List Record → List Move → Result ℕ Refusal
+moves_answer m c log buffer = reading_answer m c log buffer
+
 abbrev pub moves_after : Meaning → Content → List Record → List Move → List Move
 moves_after m c log buffer = reading_after (λ v. v) m c log buffer

@@ -19,5 +19,5 @@ pub(crate) const OPEN_BRACKETS: usize = 4096;
 // The number of moves that stands for itself and for every greater one.
 pub(crate) const MANY_MOVES: u32 = 65_536;
 
-// Moves that path writes, at most.
+// Moves of a reading that is written into a buffer, at most.
 pub(crate) const MOST_WRITTEN: usize = 65_535;

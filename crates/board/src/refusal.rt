@@ -30,9 +30,9 @@ pub enum Refusal {
     NoSuch = 9,
     // 10, add or reprice: the number is no cost of the kind
     NotACost = 10,
-    // 11, cost and path: no end row has a joined cost below the worst
+    // 11, cost, path and moves: no end row has a joined cost below the worst
     NoReading = 11,
-    // 12, path: the reading is longer than the buffer or than 65,535 moves
+    // 12, path and moves: the reading is longer than the buffer or than 65,535 moves
     TooLong = 12,
     // 13, between: a place is not below M times T
     PlaceOut = 13,

@@ -15,7 +15,7 @@ pub(crate) trait MoveForm: Copy {
     ghost form: { AMove → Self };
 
     // The move in this form.
-    fn of(v: Move) -> Self
+    fn from_move(v: Move) -> Self
         requires { Small v }
         ensures { result ≡ form v };
 }
@@ -24,7 +24,7 @@ pub(crate) trait MoveForm: Copy {
 impl MoveForm for Move {
     ghost form = { λ v. v };
 
-    fn of(v: Move) -> Move {
+    fn from_move(v: Move) -> Move {
         v
     }
 }
@@ -33,7 +33,7 @@ impl MoveForm for Move {
 impl MoveForm for u16 {
     ghost form = { packed };
 
-    fn of(v: Move) -> u16 {
+    fn from_move(v: Move) -> u16 {
         v.pack()
     }
 }
@@ -52,7 +52,7 @@ pub(crate) fn write_moves<F: MoveForm>(log: &Log, i: usize, out: &mut [F]) -> us
     let n = log.lengths[i] as usize;
     let mut cursor = Cursor::past(i);
     for k in (0..n).rev() {
-        out[k] = F::of(cursor.previous(log));
+        out[k] = F::from_move(cursor.previous(log));
     }
     n
 }

@@ -1,12 +1,11 @@
 -- Bit fields, most significant first, as they are read from a file's bytes.
 use Rattle.std.specs.Prelude.{ℕ, ◌+◌, ◌*◌, ◌/◌, ◌%◌, ◌^◌, cond, ◌||◌, List, Ok, Err, Result, ◌==◌, slice_index}
-use Rattle.std.specs.Option.{unwrap_or}
 use Rattle.costs.specs.Meaning.{Meaning}
 use Rattle.board.specs.declared.row.RowKind.{RowKind}
-use Rattle.board.specs.declared.row.RowKind.TheVariants.{End}
+use Rattle.board.specs.declared.row.RowKind.TheVariants.{Plain, Open, Close, End}
 use Rattle.board.specs.declared.row.Row.{Row}
 use Rattle.board.specs.declared.row.Line.{Line}
-use Rattle.board.specs.Rows.{kind_of_number}
+use Rattle.board.specs.Rows.{kind_number}
 use Rattle.file.specs.declared.fields.Header.{Header}
 use Rattle.file.specs.declared.refusal.FileRefusal.{FileRefusal}
 use Rattle.file.specs.declared.refusal.FileRefusal.TheVariants.{WrongLetter, NotZero, WrongTrust}
@@ -46,9 +45,9 @@ head_code bs = field (word2 bs) 12 4
 abbrev pub head_count : List ℕ → ℕ
 head_count bs = field (word2 bs) 0 12
 
--- the kind of row that has the number; a number of two bits always has one, so `End` never stands in for it
+-- the kind of row that a number of two bits stands for
 abbrev pub kind_at : ℕ → RowKind
-kind_at n = unwrap_or (kind_of_number n) End
+kind_at n = cond (n == kind_number Plain) Plain (cond (n == kind_number Open) Open (cond (n == kind_number Close) Close End))
 
 -- A row: its kind, from, to, label, action, two zero bits, cost.
 abbrev pub row_fields : ℕ → Row

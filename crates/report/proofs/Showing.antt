@@ -22,7 +22,7 @@ use Rattle.file.specs.Load.{load_answer, load_after}
 use Rattle.file.specs.declared.refusal.LoadFault.{LoadFault}
 use Rattle.file.specs.Parts.{PartRead}
 use Rattle.report.specs.Adding.{ByHeldRow, LinesAdded}
-use Rattle.report.specs.Least.{move_line, bad_line, no_line, cost_line, most_moves, LinesOf, none, one_more, SettledText, reading, too_long, no_reading, FileText, loaded, declined, OneFileText}
+use Rattle.report.specs.Least.{move_line, bad_line, no_line, cost_line, most_moves, LinesOf, none, one_more, SettledText, reading, too_long, no_reading, FileText, loaded, declined, Prints, PrintsSome}
 
 -- what holds of a value, if there is one, follows from what does
 pub if_ok : {X E : Type 0} {P Q : X → Type 0} → ((x : X) → P x → Q x) → (r : Result X E) → IfOk r P → IfOk r Q
@@ -153,7 +153,10 @@ same_file_text laws promises bytes sound a b (declined {fault = x} e) (declined 
     let same : x ≡ y = cc (e, e') in
     ap bad_line same
 
-pub one_file_text : {m : Meaning} (laws : Lawful m) (promises : CallsKeepEaseAndSettle) (bytes : List ℕ) → Sound m (load_after m bytes) → OneFileText m bytes
-one_file_text {m} laws promises bytes sound =
-    let t = file_text laws promises bytes sound (load_answer m bytes) refl in
-    record { text = t.0; printed = t.1; only = λ other p. same_file_text laws promises bytes sound other t.0 p t.1 }
+-- so it has just this one,
+pub prints : {m : Meaning} (laws : Lawful m) (promises : CallsKeepEaseAndSettle) (bytes : List ℕ) → Sound m (load_after m bytes) → (text : List ℕ) → FileText m bytes text → Prints m bytes text
+prints laws promises bytes sound text p = record { is = p; only = λ other q. same_file_text laws promises bytes sound other text q p }
+
+-- and it has one
+pub prints_some : {m : Meaning} (laws : Lawful m) (promises : CallsKeepEaseAndSettle) (bytes : List ℕ) → Sound m (load_after m bytes) → PrintsSome m bytes
+prints_some {m} laws promises bytes sound = let t = file_text laws promises bytes sound (load_answer m bytes) refl in (t.0, prints laws promises bytes sound t.0 t.1)

@@ -12,7 +12,8 @@ use Rattle.board.specs.Content.{Sound, new}
 use Rattle.board.specs.Settling.{RecordedReading}
 use Rattle.board.specs.Promises.{CallsKeepEaseAndSettle}
 use Rattle.board.specs.Examples.{row, line, flight, flight_moves}
-use Rattle.report.specs.Least.{LeastText, loaded, reading, none, one_more}
+use Rattle.report.specs.Least.{LeastPrints, loaded, reading, none, one_more}
+use Rattle.report.proofs.Showing.{prints}
 use Rattle.report.specs.Worked.{flight_file, WorkedExamples}
 
 -- the kind of points keeps the laws
@@ -34,12 +35,13 @@ flight_sound promises =
     keep.line_added _ (line 1 2 2 0) (keep.line_added _ (line 0 1 1 0) r6)
 
 -- what is printed of its file
-flight_text : CallsKeepEaseAndSettle → LeastText flight_file (codes "P 9 5\n0 - 0\n1 0 7\n3 - 0\n4 1 9\n5 - 0\n")
+flight_text : CallsKeepEaseAndSettle → LeastPrints flight_file (codes "P 9 5\n0 - 0\n1 0 7\n3 - 0\n4 1 9\n5 - 0\n")
 unfolding encode digits settled_log recorded_reading best_rows best_moments record_between row_added line_added records_added at_end from_note from_lines from_rows sized
 flight_text promises =
-    let computed = promises.computed points flight points_lawful (flight_sound promises) in
+    let sound = flight_sound promises in
+    let computed = promises.computed points flight points_lawful sound in
     let recorded : RecordedReading points flight (settled_log points flight) 9 flight_moves = (computed.some (settled_log points flight) computed.settled 9 flight_moves).1 (5, refl) in
-    loaded refl (reading recorded (search rules) (one_more refl (one_more refl (one_more refl (one_more refl (one_more refl none))))))
+    prints points_lawful promises flight_file sound _ (loaded refl (reading recorded (search rules) (one_more refl (one_more refl (one_more refl (one_more refl (one_more refl none)))))))
 
 pub worked : CallsKeepEaseAndSettle → WorkedExamples
 unfolding encode digits settled_log recorded_reading best_rows best_moments record_between row_added line_added records_added at_end from_note from_lines from_rows sized

@@ -1,4 +1,4 @@
--- What `least` prints of a file: a relation, by what load answers and which reading is the recorded one.
+-- What `least` prints of a file: the text that a relation allows, by what load answers and which reading is the recorded one.
 use Rattle.std.specs.Prelude.{◌≡◌, ℕ, ◌<◌, ◌≤◌, ◌↔◌, cond, ◌==◌, List, [], ◌∷◌, ◌++◌, length, take, Some, None, Ok, Err, codes, decimal, Option, slice_index_or}
 use Rattle.std.proofs.Math.Utf8.{encode}
 use Rattle.std.specs.Io.KnownBytes.{Appends}
@@ -66,24 +66,27 @@ pub data FileText (m : Meaning) (bytes : List ℕ) : List ℕ → Type 0 where
   loaded : {note : PartRead} {text : List ℕ} → load_answer m bytes ≡ Ok note → SettledText m (load_after m bytes) text → FileText m bytes text
   declined : {fault : LoadFault} → load_answer m bytes ≡ Err fault → FileText m bytes (bad_line fault)
 
--- Under a kind, just one text is printed of a file.
-pub record OneFileText (m : Meaning) (bytes : List ℕ) : Type 0 where
-  pub text : List ℕ
-  pub printed : FileText m bytes text
+-- It is this text, and no other.
+pub record Prints (m : Meaning) (bytes text : List ℕ) : Type 0 where
+  pub is : FileText m bytes text
   pub only : (other : List ℕ) → FileText m bytes other → other ≡ text
 
--- What `least` prints: the file under the kind of its first byte's letter; an empty one under points (80 is P).
-abbrev pub LeastText : List ℕ → List ℕ → Type 0
-LeastText bytes text = FileText (meaning_under (slice_index_or bytes 0 80)) bytes text
+-- each file has one
+abbrev pub PrintsSome : Meaning → List ℕ → Type 0
+PrintsSome m bytes = (text : List ℕ) × Prints m bytes text
 
--- that is just one text
-abbrev pub OneText : List ℕ → Type 0
-OneText bytes = OneFileText (meaning_under (slice_index_or bytes 0 80)) bytes
+-- What `least` prints: the file under the kind of its first byte's letter; an empty one under points (80 is P).
+abbrev pub LeastPrints : List ℕ → List ℕ → Type 0
+LeastPrints bytes text = Prints (meaning_under (slice_index_or bytes 0 80)) bytes text
+
+-- of each file it prints some text
+abbrev pub LeastPrintsSome : List ℕ → Type 0
+LeastPrintsSome bytes = PrintsSome (meaning_under (slice_index_or bytes 0 80)) bytes
 
 -- What it prints of these bytes, and nothing else, is added to what was written.
 pub record LeastWritten (bytes : List ℕ) (old new : Option (List ℕ)) : Type 0 where
   pub text : List ℕ
-  pub printed : LeastText bytes text
+  pub printed : LeastPrints bytes text
   pub added : Appends old new text
 
 -- how many bytes of its input the program `least` reads: so many as tell a load
@@ -92,4 +95,4 @@ bytes_read = telling
 
 -- That limit never shows: what is printed of a file's first bytes, so many, is what is printed of all of it.
 abbrev pub LimitNeverShows : Type 0
-LimitNeverShows = (bytes text : List ℕ) → LeastText (take bytes_read bytes) text ↔ LeastText bytes text
+LimitNeverShows = (bytes text : List ℕ) → LeastPrints (take bytes_read bytes) text ↔ LeastPrints bytes text

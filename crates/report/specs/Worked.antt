@@ -17,7 +17,7 @@ use Rattle.file.specs.Layout.{written}
 use Rattle.file.specs.Load.{load_after}
 use Rattle.file.specs.States.{settled, state_after}
 use Rattle.file.specs.Promise.{settled_cost, settled_path, path_left}
-use Rattle.report.specs.Least.{LeastText}
+use Rattle.report.specs.Least.{LeastPrints}
 
 -- the calls that make it of a new board, and those after which row 4 costs 30
 abbrev pub flight_calls : List Call
@@ -72,7 +72,7 @@ pub record WorkedExamples : Type 0 where
   pub flight_row : second_row ≡ 0x01 ∷ 0x04 ∷ 0x04 ∷ 0x1C ∷ 0x00 ∷ 0x00 ∷ 0x00 ∷ 0x04 ∷ []
   pub flight_loaded : load_after points flight_file ≡ flight
   -- and this is printed
-  pub flight_printed : LeastText flight_file (codes "P 9 5\n0 - 0\n1 0 7\n3 - 0\n4 1 9\n5 - 0\n")
+  pub flight_printed : LeastPrints flight_file (codes "P 9 5\n0 - 0\n1 0 7\n3 - 0\n4 1 9\n5 - 0\n")
   -- in severity the cost is 4
   pub severity_cost : settled_cost severity flight ≡ Ok (4, 5)
   -- row 4 repriced to 30 gives 35

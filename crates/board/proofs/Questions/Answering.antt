@@ -16,7 +16,7 @@ use Rattle.board.specs.Paths.{BalancedPath}
 use Rattle.board.specs.Settling.{Record, SettledLog}
 use Rattle.board.specs.Computing.{record_between, Reading, recorded_reading}
 use Rattle.board.specs.Promises.{RecordsAreLeast, RecordedIsCheapest}
-use Rattle.board.specs.Questions.{recorded_cost, between_answer, cost_told, cost_answer, fits, written_told, moves_written, path_answer, reading_after}
+use Rattle.board.specs.Questions.{recorded_cost, between_answer, cost_told, cost_answer, fits, written_told, moves_written, reading_answer, reading_after}
 use Rattle.board.specs.Meanings.{CostIsCheapest, WritesCheapestReading, Pair, BetweenIsLeast}
 use Rattle.board.proofs.Basics.Membership.{none_some}
 use Rattle.board.proofs.Questions.Finding.{joins_parts, between_some, between_is, found_recorded, found_none}
@@ -70,7 +70,7 @@ module _ {m : Meaning} {c : Content} (laws : Lawful m) (sound : Sound m c) {log 
   path_by form None buffer e = (inl (refl, promised.1.none.0 (found_none laws sound d.reached e)), refl)
   path_by form (Some f) buffer e = path_fits form f buffer e (fits f buffer) refl
 
-  path_means : {A : Type 0} (form : Move → A) (buffer : List A) → WritesCheapestReading form m c log buffer (path_answer m c log buffer) (reading_after form m c log buffer)
+  path_means : {A : Type 0} (form : Move → A) (buffer : List A) → WritesCheapestReading form m c log buffer (reading_answer m c log buffer) (reading_after form m c log buffer)
   path_means form buffer = path_by form _ buffer refl
 
   -- between
@@ -128,7 +128,7 @@ module _ {K : Type 0} {k : Ghosts K} (laws : Lawful k.meaning) (s : SettledBoard
   pub cost_tells : (r : Result (ℕ × ℕ) Refusal) → r ≡ cost_answer k.meaning (settled_content s) (settled_records s) → CostIsCheapest k.meaning (settled_content s) (settled_records s) r
   cost_tells r e = subst (CostIsCheapest k.meaning (settled_content s) (settled_records s)) (sym e) (cost_means laws s.tables.sound (settled_of laws s))
 
-  pub path_tells : {A : Type 0} (form : Move → A) (b b' : List A) (r : Result ℕ Refusal) → r ≡ path_answer k.meaning (settled_content s) (settled_records s) b → b' ≡ reading_after form k.meaning (settled_content s) (settled_records s) b → WritesCheapestReading form k.meaning (settled_content s) (settled_records s) b r b'
+  pub path_tells : {A : Type 0} (form : Move → A) (b b' : List A) (r : Result ℕ Refusal) → r ≡ reading_answer k.meaning (settled_content s) (settled_records s) b → b' ≡ reading_after form k.meaning (settled_content s) (settled_records s) b → WritesCheapestReading form k.meaning (settled_content s) (settled_records s) b r b'
   path_tells form b b' r e f = subst₂ (WritesCheapestReading form k.meaning (settled_content s) (settled_records s) b) (sym e) (sym f) (path_means laws s.tables.sound (settled_of laws s) form b)
 
   pub between_tells : (from to : ℕ) (r : Result ℕ Refusal) → r ≡ between_answer (settled_content s) (settled_records s) from to → BetweenIsLeast k.meaning (settled_content s) from to r

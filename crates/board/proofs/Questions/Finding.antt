@@ -1,5 +1,5 @@
 -- The function `recorded_reading` gives the recorded reading.
-use Rattle.std.proofs.Common.{◌≡◌, ℕ, zero, suc, ◌<◌, ◌≤◌, Bool, true, false, cond, ◌⊎◌, List, [], ◌∷◌, ◌++◌, length, Some, None, Option, sym, refl, ap, ◌∙◌, subst, inl, inr, ⊎_elim, arith}
+use Rattle.std.proofs.Common.{◌≡◌, ℕ, zero, suc, ◌+◌, ◌<◌, ◌≤◌, Bool, true, false, cond, ◌⊎◌, List, [], ◌∷◌, ◌++◌, length, Some, None, Option, sym, refl, ap, ◌∙◌, subst, inl, inr, ⊎_elim, arith}
 use Rattle.std.proofs.lemmas.Option.{none-some, slice_get_within}
 use Rattle.std.specs.List.{slice_get}
 use Rattle.std.proofs.lemmas.Bool.{both_ways, cases_eq, and_parts, and_from, eqb-true, eq-eqb}
@@ -12,10 +12,10 @@ use Rattle.board.specs.Content.{Content, Sound}
 use Rattle.board.specs.Moves.{Place, mode, moment, origin, place_number, On, Transition, is_end}
 use Rattle.board.specs.Settling.{Cheaper, In, bare, Record, Rounds, SettledLog, ReadingBy, RecordedReading, HasNoReading, AnswersCost}
 use Rattle.board.specs.Arrivals.{arrival_on}
-use Rattle.board.specs.Computing.{joins?, record_between, Reading, ending, reading_at, better, best_moments, mode_left, best_rows, recorded_reading}
+use Rattle.board.specs.Computing.{joins?, record_between, Reading, ending, reading_at, better, best_moments, best_rows, recorded_reading}
 use Rattle.board.specs.Promises.{Computed}
 use Rattle.board.proofs.Basics.Laws.{cheaper_no_dearer, no_dearer_eq, cheaper_up, cheaper_or}
-use Rattle.board.proofs.Basics.Membership.{none_some}
+use Rattle.board.proofs.Basics.Membership.{some_eq, none_some}
 use Rattle.board.proofs.Rounds.Diagonal.{place_eq}
 use Rattle.board.proofs.Rounds.Pairs.{distinct, record_on}
 use Rattle.board.proofs.Paths.Transitions.{arrival_transition, transition_arrival}
@@ -200,25 +200,37 @@ module _ {m : Meaning} {c : Content} (laws : Lawful m) (sound : Sound m c) {roun
       (scan_more D n (u, t) (hu, omega arith) (best_moments m c log n u t b) _ refl (moments_scanned C n u t b hu (omega arith) s))
 
   -- a reading's place is of the board, in the mode that its row leaves
-  reading_place : (i k : ℕ) (vs : List Move) (r : ReadingBy m c log i k vs) → On c r.held.to × (mode r.held.to ≡ mode_left (slice_get c.rows i)) × (i < length c.rows)
-  reading_place i k vs r = ((record_on laws sound reached r.held r.logged).1, r.over.leaves ∙ sym (ap mode_left r.over.found), slice_get_within c.rows i r.over.by r.over.found)
+  reading_place : (i k : ℕ) (vs : List Move) (r : ReadingBy m c log i k vs) (by : Row) → slice_get c.rows i ≡ Some by → On c r.held.to × (mode r.held.to ≡ by.from)
+  reading_place i k vs r by found = ((record_on laws sound reached r.held r.logged).1, r.over.leaves ∙ ap (λ (x : Row). x.from) (some_eq _ _ _ r.over.found found))
 
-  -- the mode that a row leaves is of the board
-  left_in : (n : ℕ) (o : Option Row) → slice_get c.rows n ≡ o → mode_left o < c.modes
-  left_in n None e = sound.some_mode
-  left_in n (Some r) e = (sound.sound_rows n r e).from_in
-
-  -- the rows below n
-  rows_scanned : (n : ℕ) → Scanned (λ i q. i < n) n (best_rows m c log n)
+  -- these rows, of which the first is row i, and those before it
+  rows_scanned : (i : ℕ) (rs : List Row) → i + length rs ≡ length c.rows → ((j : ℕ) (r : Row) → slice_get rs j ≡ Some r → slice_get c.rows (i + j) ≡ Some r) → (b : Option Reading) → Scanned (λ j q. j < i) i b → Scanned (λ j q. j < length c.rows) (length c.rows) (best_rows m c log i rs b)
   unfolding best_rows
-  rows_scanned zero = λ i k vs r d. absurd (omega arith)
-  rows_scanned (suc n) =
-      scanned_for _ (λ i q. i < suc n) n (suc n) _ (omega arith)
-      (λ i k vs r d. ⊎_elim (λ (z : i ≡ n). let w = reading_place i k vs r in inr (z, w.1 ∙ ap (λ j. mode_left (slice_get c.rows j)) z, w.0.1)) (λ (z : i ≡ n → ⊥). inl (omega arith)) (cases_eq i n))
-      (moments_scanned (λ i q. i < n) n (mode_left (slice_get c.rows n)) c.moments (best_rows m c log n) (left_in n _ refl) (omega arith) (rows_scanned n))
+  rows_scanned i [] all held b s = scanned_for _ _ i (length c.rows) b (omega (arith, all)) (λ j k vs r d. omega (arith, all, d)) s
+  rows_scanned i (x ∷ rs) all held b s =
+      let found : slice_get c.rows i ≡ Some x = ap (slice_get c.rows) zero_more ∙ held 0 x refl in
+      rows_scanned (suc i) rs (omega (arith, all)) (λ j r e. ap (slice_get c.rows) (one_on j) ∙ held (suc j) r e) (best_moments m c log i x.from c.moments b)
+      (scanned_for _ (λ j q. j < suc i) i (suc i) _ (omega arith)
+      (λ j k vs r d. ⊎_elim
+      (λ (z : j ≡ i). let w = reading_place j k vs r x (ap (slice_get c.rows) z ∙ found) in inr (z, w.1, w.0.1))
+      (λ (z : j ≡ i → ⊥). inl (omega arith))
+      (cases_eq j i))
+      (moments_scanned (λ j q. j < i) i x.from c.moments b (sound.sound_rows i x found).from_in (omega arith) s))
+    where
+      zero_more : i ≡ i + 0
+      zero_more = omega arith
+
+      one_on : (j : ℕ) → suc i + j ≡ i + suc j
+      one_on j = omega arith
+
+  all_rows_scanned : Scanned (λ i q. i < length c.rows) (length c.rows) (best_rows m c log 0 c.rows None)
+  all_rows_scanned = rows_scanned 0 c.rows (omega arith) (λ j r e. ap (slice_get c.rows) (from_front j) ∙ e) None (λ i k vs r d. absurd (omega (arith, d)))
+    where
+      from_front : (j : ℕ) → 0 + j ≡ j
+      from_front j = omega arith
 
   all_scanned : (i k : ℕ) (vs : List Move) (r : ReadingBy m c log i k vs) → i < length c.rows
-  all_scanned i k vs r = (reading_place i k vs r).2
+  all_scanned i k vs r = slice_get_within c.rows i r.over.by r.over.found
 
   from_scan : (b : Option Reading) → Scanned (λ i q. i < length c.rows) (length c.rows) b → (x : Reading) → b ≡ Some x → RecordedReading m c log x.cost x.moves
   from_scan None s x e = absurd (none-some x e)
@@ -232,11 +244,11 @@ module _ {m : Meaning} {c : Content} (laws : Lawful m) (sound : Sound m c) {roun
 
   pub found_recorded : (x : Reading) → recorded_reading m c log ≡ Some x → RecordedReading m c log x.cost x.moves
   unfolding recorded_reading
-  found_recorded x e = from_scan _ (rows_scanned (length c.rows)) x e
+  found_recorded x e = from_scan _ all_rows_scanned x e
 
   pub found_none : recorded_reading m c log ≡ None → HasNoReading m c log
   unfolding recorded_reading
-  found_none e = none_scan _ (rows_scanned (length c.rows)) e
+  found_none e = none_scan _ all_rows_scanned e
 
   -- there always is an answer
   pub answered : (k : ℕ) × AnswersCost m c log k

@@ -1,5 +1,5 @@
 -- From a book to what a settled board answers.
-use Rattle.std.proofs.Common.{◌≡◌, ℕ, zero, suc, ◌+◌, ◌*◌, ◌<◌, ◌≤◌, Bool, true, false, cond, ◌⊎◌, get_or, Some, None, Option, sym, refl, ap, ◌∙◌, subst, inl, inr, ⊎_elim, arith}
+use Rattle.std.proofs.Common.{◌≡◌, ℕ, zero, suc, ◌+◌, ◌*◌, ◌<◌, ◌≤◌, Bool, true, false, cond, ◌⊎◌, get_or, Some, None, Option, sym, refl, ap, ◌∙◌, subst, inl, inr, arith}
 use Rattle.std.proofs.lemmas.Bool.{eq-eqb, cases_eq, both_ways, cond-true, cond-false}
 use Rattle.std.specs.Cmp.Derive.{both_true}
 use Rattle.costs.specs.declared.kind.Kind.{Ghosts}
@@ -15,7 +15,7 @@ use Rattle.board.specs.Boards.{settled_content, settled_records}
 use Rattle.board.specs.ByNumber.{NumberIn, record_by_number}
 use Rattle.board.specs.Computing.{joins?, record_between}
 use Rattle.board.proofs.Questions.Finding.{joins_parts}
-use Rattle.board.proofs.Basics.Numbers.{place_below, number_in}
+use Rattle.board.proofs.Basics.Numbers.{number_in}
 use Rattle.board.proofs.Basics.Membership.{some_eq, none_some}
 use Rattle.board.proofs.Promised.{settling_computed}
 
@@ -71,13 +71,3 @@ module _ {m : Meaning} (c : Content) (l : Log) (b : Book m c l) (s q : ℕ) wher
   pub at_index : c.modes * c.moments ≤ 64 → q < 64 → (r : Option ℕ) → r ≡ get_or l.index (s * 64 + q) None → (record_by_number l r ≡ record_between c (records l) s q) × NumberIn l.count r
   at_index few h None e = (sym (index_none (sym e)), tt)
   at_index few h (Some i) e = let k = index_some i few h (sym e) in (sym k.1, k.0)
-
-  -- numbers that are no places join nothing
-  pub place_none : (c.modes * c.moments ≤ s) ⊎ ((s < c.modes * c.moments) × (c.modes * c.moments ≤ q)) → record_between c (records l) s q ≡ None
-  place_none out = between_past c l s q l.count (λ j x f.
-      let z = joins_parts c (nth_record l j) s q f in
-      let z0 = z.0 in
-      let z1 = z.1 in
-      let h = place_below c (numbered l j).from (b.kept j x).from_on in
-      let k = place_below c (numbered l j).to (b.kept j x).to_on in
-      ⊎_elim (λ y. omega arith) (λ y. let y1 = y.1 in omega arith) out)

@@ -17,7 +17,7 @@ use Rattle.board.specs.Settling.{bare}
 use Rattle.board.specs.Logs.{nth_record}
 use Rattle.board.specs.Computing.{Reading, recorded_reading}
 use Rattle.board.specs.Boards.{settled_content, settled_records}
-use Rattle.board.specs.Questions.{fits, written_told, moves_written, path_answer, reading_after}
+use Rattle.board.specs.Questions.{fits, written_told, moves_written, reading_answer, reading_after}
 
 -- what is told of a reading in a log
 module _ (l : Log) (r : LogReading) (o : Option Reading) (is : reading_of l (Some r) ≡ o) (k : ℕ) (measured : k ≡ min (length (nth_record l r.before).moves) 65536) where
@@ -64,5 +64,5 @@ module _ {K : Type 0} {k : Ghosts K} (laws : Lawful k.meaning) (s : Settled K k)
   pub told_small : (i : ℕ) → i < length (moves_at s.log r.before) → Small (move_of s.log r.before i)
   told_small = let d = settled_of laws s in settled_small s.log r.before laws s.tables.sound (d.rounds, d.reached) in_log
 
-  pub told_path : reading_of s.log w ≡ recorded_reading k.meaning (settled_content s) (settled_records s) → {A : Type 0} (form : Move → A) (buffer out : List A) (n : ℕ) (x : A) → get_or s.log.lengths r.before 0 < length buffer → get_or s.log.lengths r.before 0 < 65535 → n ≡ length (moves_at s.log r.before) → out ≡ map form (moves_at s.log r.before) ++ drop (length (moves_at s.log r.before)) buffer → x ≡ form (bare r.row) → (Ok (n + 1) ≡ path_answer k.meaning (settled_content s) (settled_records s) buffer) × (set out n x ≡ reading_after form k.meaning (settled_content s) (settled_records s) buffer)
+  pub told_path : reading_of s.log w ≡ recorded_reading k.meaning (settled_content s) (settled_records s) → {A : Type 0} (form : Move → A) (buffer out : List A) (n : ℕ) (x : A) → get_or s.log.lengths r.before 0 < length buffer → get_or s.log.lengths r.before 0 < 65535 → n ≡ length (moves_at s.log r.before) → out ≡ map form (moves_at s.log r.before) ++ drop (length (moves_at s.log r.before)) buffer → x ≡ form (bare r.row) → (Ok (n + 1) ≡ reading_answer k.meaning (settled_content s) (settled_records s) buffer) × (set out n x ≡ reading_after form k.meaning (settled_content s) (settled_records s) buffer)
   told_path which form = path_short s.log r _ (ap (reading_of s.log) (sym w-is) ∙ which) _ (s.book.spells.lengths_are r.before in_log) form

@@ -7,7 +7,7 @@ ghost use Rattle.board.specs.Faults.{RefusesFaults};
 ghost use Rattle.board.specs.Paths.{GrammarIsStack};
 ghost use Rattle.board.specs.Promises.{MovesComputed, OneCost};
 ghost use Rattle.board.specs.Packing.{packed};
-ghost use Rattle.board.specs.Questions.{between_answer, cost_answer, path_answer, reading_after, path_after, moves_after};
+ghost use Rattle.board.specs.Questions.{between_answer, cost_answer, reading_answer, reading_after, path_answer, path_after, moves_answer, moves_after};
 ghost use Rattle.board.specs.Meanings.{CostIsCheapest, WritesCheapestReading, BetweenIsLeast};
 
 use crate::bounds::{MANY_MOVES, MOST_WRITTEN};
@@ -43,7 +43,7 @@ impl<K: Kind> Settled<K> {
 
     // Writes the recorded reading's moves, each in the buffer's form, to the front of the buffer, and answers how many.
     fn write_reading<F: MoveForm>(&self, buffer: &mut [F]) -> Result<usize, Refusal>
-        ensures answer { result ≡ path_answer K.meaning (settled_content self.now) (settled_records self.now) buffer.old }
+        ensures answer { result ≡ reading_answer K.meaning (settled_content self.now) (settled_records self.now) buffer.old }
         ensures after { buffer.new ≡ reading_after F.form K.meaning (settled_content self.now) (settled_records self.now) buffer.old }
         ensures means { WritesCheapestReading F.form K.meaning (settled_content self.now) (settled_records self.now) buffer.old result buffer.new }
     {
@@ -53,7 +53,7 @@ impl<K: Kind> Settled<K> {
             return Err(Refusal::TooLong);
         }
         let n = write_moves(&self.log, r.before, buffer);
-        buffer[n] = F::of(Move {
+        buffer[n] = F::from_move(Move {
             row: r.row,
             line: None,
         });
@@ -71,7 +71,7 @@ impl<K: Kind> Settled<K> {
 
     // Writes the recorded reading's moves to the front of the buffer, and answers how many; refuses as `path` does.
     pub fn moves(&self, buffer: &mut [Move]) -> Result<usize, Refusal>
-        ensures answer { result ≡ path_answer K.meaning (settled_content self.now) (settled_records self.now) buffer.old }
+        ensures answer { result ≡ moves_answer K.meaning (settled_content self.now) (settled_records self.now) buffer.old }
         ensures after { buffer.new ≡ moves_after K.meaning (settled_content self.now) (settled_records self.now) buffer.old }
         ensures means { WritesCheapestReading (λ v. v) K.meaning (settled_content self.now) (settled_records self.now) buffer.old result buffer.new }
     {

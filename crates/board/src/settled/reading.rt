@@ -1,7 +1,8 @@
 // Finding the recorded reading.
-ghost use Rattle.std.specs.Prelude.{◌≡◌, length};
+ghost use Rattle.std.specs.Prelude.{◌≡◌, ◌*◌, ◌<◌, length};
 ghost use Rattle.board.specs.Boards.{settled_content, settled_records};
 ghost use Rattle.board.specs.Computing.{record_between, reading_at, recorded_reading};
+ghost use Rattle.board.specs.Moves.{On};
 ghost use Rattle.board.specs.ByNumber.{NumberIn, ReadingIn, record_by_number, reading_of};
 
 use crate::bounds::PLACES;
@@ -13,18 +14,17 @@ use costs::Kind;
 impl<K: Kind> Settled<K> {
     // The number of the record from the place numbered `from` to the place numbered `to`, if the pair is settled.
     pub(crate) fn record_between(&self, from: usize, to: usize) -> Option<usize>
+        requires from { from < self.now.tables.modes * self.now.tables.moments }
+        requires to { to < self.now.tables.modes * self.now.tables.moments }
         ensures which { record_by_number self.now.log result ≡ record_between (settled_content self.now) (settled_records self.now) from to }
         ensures within { NumberIn self.now.log.count result }
     {
-        let places = self.tables.modes as usize * self.tables.moments as usize;
-        if from >= places || to >= places {
-            return None;
-        }
         self.log.at(from * PLACES + to)
     }
 
     // The reading by the row at the place: the record from place 0 to there, and that row, if it is an end row.
     fn reading_at(&self, row: u8, place: Place) -> Option<Reading>
+        requires { On (settled_content self.now) place }
         ensures which { reading_of self.now.log result ≡ reading_at K.meaning (settled_content self.now) (settled_records self.now) row place }
         ensures within { ReadingIn self.now.log.count (length self.now.tables.rows.items) result }
     {

@@ -11,8 +11,8 @@ loop-k-init g c =
     let n = counted c.requires.spells c.args.i c.requires.within c.requires.short in
     (c.past-cursor.ensures.walks l c.requires.within, c.past-cursor.ensures.all l ∙ sym (take_all (length ms) ms (omega arith)) ∙ ap (λ k. take k ms) (sym n), write_none g.F.MoveForm.form ms c.args.out.now _ n)
 
-pub of-requires : goal.of-requires
-of-requires g c =
+pub from_move-requires : goal.from_move-requires
+from_move-requires g c =
     let ms = moves_at c.args.log.now c.args.i in
     let n = counted c.requires.spells c.args.i c.requires.within c.requires.short in
     let e = last_of ms _ c.loop-k.k c.previous.result c.loop-k-test.true (omega arith) (sym c.loop-k.invariant.1 ∙ c.previous.ensures.last) in
@@ -24,4 +24,4 @@ loop-k-preserved g c =
     let n = counted c.requires.spells c.args.i c.requires.within c.requires.short in
     let e = last_of ms _ c.loop-k.k c.previous.result c.loop-k-test.true (omega arith) (sym c.loop-k.invariant.1 ∙ c.previous.ensures.last) in
     let r = c.requires.room in
-    (c.previous.ensures.walks, e.0, write_more g.F.MoveForm.form ms c.args.out.now _ c.loop-k.k c.of.result c.loop-k.out c.loop-k-test.true (omega arith) (omega arith) c.loop-k.invariant.2 (c.of.ensures ∙ ap g.F.MoveForm.form e.1))
+    (c.previous.ensures.walks, e.0, write_more g.F.MoveForm.form ms c.args.out.now _ c.loop-k.k c.from_move.result c.loop-k.out c.loop-k-test.true (omega arith) (omega arith) c.loop-k.invariant.2 (c.from_move.ensures ∙ ap g.F.MoveForm.form e.1))

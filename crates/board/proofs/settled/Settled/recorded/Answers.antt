@@ -1,6 +1,6 @@
 use Rattle.std.proofs.Common.{ap, ◌∙◌}
 use Rattle.board.specs.ByNumber.{reading_of}
-use Rattle.board.proofs.Questions.Scanning.{moments_none, moments_more, rows_none, rows_more, rows_all, reading_better, better_within}
+use Rattle.board.proofs.Questions.Scanning.{row_at, moments_none, moments_more, rows_none, rows_more, rows_all, reading_better, better_within}
 use Rattle.board.proofs.settled.Settled.recorded.Goals as goal
 
 pub loop-n-init : goal.loop-n-init
@@ -8,6 +8,11 @@ loop-n-init g c = (rows_none _ _ _, tt)
 
 pub loop-moment-init : goal.loop-moment-init
 loop-moment-init g c = (c.loop-n.invariant.0 ∙ moments_none _ _ _ _ _ _, c.loop-n.invariant.1)
+
+pub reading_at-next-requires : goal.reading_at-next-requires
+reading_at-next-requires g c =
+    let x = c.args.self.now in
+    ((x.tables.sound.sound_rows c.loop-n.n _ (row_at _ _ c.loop-n.n _ c.deref-row-items.ensures.0 c.loop-n-test.true)).from_in, c.loop-moment-test.true)
 
 pub loop-moment-preserved : goal.loop-moment-preserved
 loop-moment-preserved g c =

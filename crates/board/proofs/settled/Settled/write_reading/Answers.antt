@@ -17,5 +17,5 @@ returns-then-moves-buffer-clause-means g c = path_tells g.met.K.Kind.lawful c.ar
 pub returns : goal.returns
 returns g c =
     let x = c.args.self.now in
-    let z = told_path g.met.K.Kind.lawful x c.in_ok-r.r (search rules) c.recorded.ensures.within c.recorded.ensures.which g.F.MoveForm.form c.args.buffer.now c.write_moves-n.new.out c.write_moves-n.result c.of.result c.if-moves-buffer.false (omega arith) c.write_moves-n.ensures.count c.write_moves-n.ensures.after c.of.ensures in
+    let z = told_path g.met.K.Kind.lawful x c.in_ok-r.r (search rules) c.recorded.ensures.within c.recorded.ensures.which g.F.MoveForm.form c.args.buffer.now c.write_moves-n.new.out c.write_moves-n.result c.from_move.result c.if-moves-buffer.false (omega arith) c.write_moves-n.ensures.count c.write_moves-n.ensures.after c.from_move.ensures in
     record { answer = z.0; after = z.1; means = path_tells g.met.K.Kind.lawful x g.F.MoveForm.form _ _ _ z.0 z.1 }
