@@ -1,5 +1,6 @@
 -- What a move names, where that starts, and where it leads.
 use Rattle.std.specs.Prelude.{ℕ, Bool, true, false, cond, not, ◌&&◌, List, Some, None, Option, ◌==◌, nat_lt}
+use Rattle.std.specs.Option.{option_and_then}
 use Rattle.std.specs.List.{slice_get}
 use Rattle.costs.specs.Meaning.{Meaning}
 use Rattle.board.specs.declared.row.RowKind.{RowKind}
@@ -29,8 +30,7 @@ along r l = record { row = r; line = Some l }
 
 -- the row with this line, if it is of the row's event
 abbrev pub named_line : Row → Option Line → Option Named
-named_line r None = None
-named_line r (Some l) = cond (l.event == r.label) (Some (along r l)) None
+named_line r o = option_and_then (λ l. cond (l.event == r.label) (Some (along r l)) None) o
 
 -- the row alone if it takes no line and none is given, or with the line given if it takes one
 abbrev pub named_by : List Line → Row → Option ℕ → Option Named
@@ -39,8 +39,7 @@ named_by ls r (Some j) = cond (takes_line r.kind r.label) (named_line r (slice_g
 
 -- the same, if there is such a row
 abbrev pub named_row : List Line → Option ℕ → Option Row → Option Named
-named_row ls line None = None
-named_row ls line (Some r) = named_by ls r line
+named_row ls line o = option_and_then (λ r. named_by ls r line) o
 
 -- What a move names: a row that takes no line, or a row with a line of its event. Nothing where the row or the line is
 -- not held, there is a line where the row takes none, or none of the row's event.
@@ -75,8 +74,7 @@ arrival_by m n p = arrival_by_row m n.row n.line p
 
 -- where what is named leads from the place, if it starts there
 abbrev pub arrival_of : Meaning → ℕ → Option Named → Place → Option Arrival
-arrival_of m moments None p = None
-arrival_of m moments (Some n) p = cond (starts_at moments n p) (Some (arrival_by m n p)) None
+arrival_of m moments o p = option_and_then (λ n. cond (starts_at moments n p) (Some (arrival_by m n p)) None) o
 
 -- where the move v leads from p on a content
 abbrev pub arrival_on : Meaning → Content → Move → Place → Option Arrival

@@ -1,5 +1,6 @@
 -- Checking a list of packed moves, move by move.
 use Rattle.std.specs.Prelude.{ℕ, suc, Bool, false, cond, not, ◌||◌, List, [], ◌∷◌, length, Some, None, Ok, Err, Option, Result, ◌==◌, nat_lt}
+use Rattle.std.specs.Option.{option_and_then}
 use Rattle.costs.specs.Meaning.{Meaning}
 use Rattle.board.specs.Bounds.{most_open}
 use Rattle.board.specs.declared.moves.Move.{Move}
@@ -53,8 +54,7 @@ take_named m moments w (Some n) =
 
 -- what a packed move names: nothing where the number breaks the packing
 abbrev pub named_by_number : Content → Option Move → Option Named
-named_by_number c None = None
-named_by_number c (Some v) = named c v
+named_by_number c o = option_and_then (named c) o
 
 -- one packed move
 abbrev pub take_move : Meaning → Content → Progress → ℕ → Result Progress Refusal

@@ -1,5 +1,6 @@
 -- Settling as functions, with which cases are computed: the candidates of a log, the rounds, and the recorded reading.
 use Rattle.std.specs.Prelude.{ℕ, zero, suc, ◌*◌, Bool, true, false, cond, not, ◌&&◌, List, [], ◌∷◌, ◌++◌, map, length, Some, None, Option, ◌==◌}
+use Rattle.std.specs.Option.{option_and_then, option_map_or}
 use Rattle.std.specs.List.{filter, list_all, find, flat_map, fold}
 use Rattle.std.specs.Ordering.{is_le, nat_cmp}
 use Rattle.std.specs.Cmp.Lexicographic.{slice_cmp}
@@ -40,8 +41,7 @@ step_effect m a v h Ends = []
 
 -- the same, if the step leads somewhere
 abbrev pub step_by : Meaning → Record → Move → Option Arrival → List Record
-step_by m a v None = []
-step_by m a v (Some h) = step_effect m a v h h.effect
+step_by m a v o = option_map_or (λ h. step_effect m a v h h.effect) o []
 
 -- the record a with the call of bracket n opened by o at the cost k, b inside it, closed by w, which leads to h and does e
 abbrev pub close_effect : Meaning → Record → Move → ℕ → Record → Move → ℕ → Arrival → Effect → List Record
@@ -52,8 +52,7 @@ close_effect m a o k b w n h Ends = []
 
 -- the same, if the close leads somewhere
 abbrev pub close_by : Meaning → Record → Move → ℕ → Record → Move → ℕ → Option Arrival → List Record
-close_by m a o k b w n None = []
-close_by m a o k b w n (Some h) = close_effect m a o k b w n h h.effect
+close_by m a o k b w n l = option_map_or (λ h. close_effect m a o k b w n h h.effect) l []
 
 -- the calls of bracket n opened by o at the cost k, with b inside, if b starts where o leads
 abbrev pub inside_if : Meaning → Content → Record → Move → ℕ → ℕ → Record → Bool → List Record
@@ -73,8 +72,7 @@ open_effect m c log a o h Ends = []
 
 -- the same, if the open leads somewhere
 abbrev pub open_by : Meaning → Content → List Record → Record → Move → Option Arrival → List Record
-open_by m c log a o None = []
-open_by m c log a o (Some h) = open_effect m c log a o h h.effect
+open_by m c log a o l = option_map_or (λ h. open_effect m c log a o h h.effect) l []
 
 -- the candidates that go on from the record a by the move v
 abbrev pub from_arrival : Meaning → Content → List Record → Record → Move → Option Arrival → List Record
@@ -120,8 +118,7 @@ next m c log = next_of m c (filter (unrecorded? log) (candidates m c log))
 
 -- the log as it is where there is no next record, else what f makes of the next record
 abbrev pub run_on : List Record → (Record → List Record) → Option Record → List Record
-run_on log f None = log
-run_on log f (Some x) = f x
+run_on log f o = option_map_or f o log
 
 -- the log after n rounds more, or after fewer where no round is left
 abbrev pub run : Meaning → Content → ℕ → List Record → List Record
@@ -152,10 +149,7 @@ pub record Reading : Type 0 where
 
 -- the record a and then the row i, which leads to h, if that is an end row
 abbrev pub ending : Meaning → ℕ → Option Arrival → Option Record → Option Reading
-ending m i None a = None
-ending m i (Some h) None = None
-ending m i (Some h) (Some a) =
-    cond (is_end h.effect) (Some (record { row = i; cost = m.join a.cost h.cost; moves = a.moves ++ (bare i ∷ []) })) None
+ending m i l o = option_and_then (λ h. option_and_then (λ a. cond (is_end h.effect) (Some (record { row = i; cost = m.join a.cost h.cost; moves = a.moves ++ (bare i ∷ []) })) None) o) l
 
 -- the reading by the row i at the place p: the record from place 0 to p, and that row
 abbrev pub reading_at : Meaning → Content → List Record → ℕ → Place → Option Reading
@@ -163,14 +157,12 @@ reading_at m c log i p = ending m i (arrival_on m c (bare i) p) (record_between 
 
 -- what the next must cost less than, to be better
 abbrev pub limit_by : {A : Type 0} → Meaning → (A → ℕ) → Option A → ℕ
-limit_by m cost None = m.worst
-limit_by m cost (Some x) = cost x
+limit_by m cost o = option_map_or cost o m.worst
 
 -- the better of two by their costs, of which the first comes first where they tie; one that is no cheaper than the worst is
 -- none
 abbrev pub better_by : {A : Type 0} → Meaning → (A → ℕ) → Option A → Option A → Option A
-better_by m cost b None = b
-better_by m cost b (Some x) = cond (m.no_dearer (limit_by m cost b) (cost x)) b (Some x)
+better_by m cost b o = option_map_or (λ x. cond (m.no_dearer (limit_by m cost b) (cost x)) b (Some x)) o b
 
 -- the better of two readings
 abbrev pub better : Meaning → Option Reading → Option Reading → Option Reading

@@ -19,8 +19,8 @@ abbrev pub line : ℕ → ℕ → ℕ → ℕ → Line
 line f t e x = record { from = f; to = t; event = e; cost = x }
 
 -- the move by a row with a line
-abbrev along : ℕ → ℕ → Move
-along i j = record { row = i; line = Some j }
+abbrev with_a_line : ℕ → ℕ → Move
+with_a_line i j = record { row = i; line = Some j }
 
 -- Three modes and three moments. Row 0 opens bracket 0 and row 3 closes it; rows 1 and 2 take a line of event 1 or 2
 -- inside it, row 4 one of event 2 outside; rows 5 and 6 end a reading in mode 2 and in mode 0.
@@ -38,7 +38,7 @@ flight = record {
 
 -- its recorded reading: rows 0, 1 with line 0, 3, 4 with line 1, and 5
 abbrev pub flight_moves : List Move
-flight_moves = bare 0 ∷ (along 1 0 ∷ (bare 3 ∷ (along 4 1 ∷ (bare 5 ∷ []))))
+flight_moves = bare 0 ∷ (with_a_line 1 0 ∷ (bare 3 ∷ (with_a_line 4 1 ∷ (bare 5 ∷ []))))
 
 -- what is computed of it, with points
 pub record SettlingExamples : Type 0 where

@@ -1,5 +1,6 @@
 -- What a settled board answers, from its content and its log.
 use Rattle.std.specs.Prelude.{ℕ, ◌*◌, min, Bool, cond, ◌&&◌, ◌||◌, List, ◌++◌, map, length, drop, Some, None, Ok, Err, Option, Result, nat_le}
+use Rattle.std.specs.Option.{ok_or, option_map}
 use Rattle.costs.specs.Meaning.{Meaning}
 use Rattle.board.specs.Bounds.{many_moves, most_written}
 use Rattle.board.specs.declared.moves.Move.{Move}
@@ -12,8 +13,7 @@ use Rattle.board.specs.Computing.{record_between, Reading, recorded_reading}
 
 -- the cost of a pair's record, if it has one
 abbrev pub recorded_cost : Option Record → Result ℕ Refusal
-recorded_cost None = Err Unsettled
-recorded_cost (Some a) = Ok a.cost
+recorded_cost o = ok_or (option_map (λ (a : Record). a.cost) o) Unsettled
 
 -- Between: the recorded cost of a pair of places, given by their numbers.
 abbrev pub between_answer : Content → List Record → ℕ → ℕ → Result ℕ Refusal
@@ -22,8 +22,7 @@ between_answer c log s q =
 
 -- a reading's cost and number of moves, the number standing at 65,536 where it is more
 abbrev pub cost_told : Option Reading → Result (ℕ × ℕ) Refusal
-cost_told None = Err NoReading
-cost_told (Some f) = Ok (f.cost, min (length f.moves) many_moves)
+cost_told o = ok_or (option_map (λ (f : Reading). (f.cost, min (length f.moves) many_moves)) o) NoReading
 
 -- Cost: the recorded reading's cost and number of moves.
 abbrev pub cost_answer : Meaning → Content → List Record → Result (ℕ × ℕ) Refusal

@@ -1,5 +1,6 @@
 -- The numbers of the refusals, and 'the first that applies'.
 use Rattle.std.specs.Prelude.{ℕ, Bool, cond, List, [], ◌∷◌, ◌++◌, Some, None, Ok, Err, codes, decimal, Option, Result}
+use Rattle.std.specs.Option.{option_map_or}
 use Rattle.board.specs.declared.refusal.Refusal.{Refusal}
 use Rattle.board.specs.declared.refusal.Refusal.TheVariants.{NotEmpty, SizeOut, RowsFull, ModeOut, BadRow, LinesFull, MomentOut, NoEvent, NoSuch, NotACost, NoReading, TooLong, PlaceOut, Unsettled, BadMove, NotNext, BadBracket, TooDeep, NoEnd}
 use Rattle.board.specs.declared.check.Fault.{Fault}
@@ -33,13 +34,11 @@ first_refusal (r ∷ rs) = cond r.0 (Some r.1) (first_refusal rs)
 
 -- what a call answers: x, or the refusal where there is one
 abbrev pub answer : {X : Type 0} → Option Refusal → X → Result X Refusal
-answer None x = Ok x
-answer (Some e) x = Err e
+answer o x = option_map_or Err o (Ok x)
 
 -- what a call leaves: the new, or the old where it is refused
 abbrev pub unless : {X : Type 0} → Option Refusal → X → X → X
-unless None done old = done
-unless (Some e) done old = old
+unless o done old = option_map_or (λ e. old) o done
 
 -- how a refusal is told: `no` and its number
 abbrev pub refusal_text : Refusal → List ℕ

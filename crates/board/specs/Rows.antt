@@ -1,5 +1,5 @@
 -- When a row is well formed, and the numbers of the kinds of row.
-use Rattle.std.specs.Prelude.{ℕ, Bool, true, cond, ◌&&◌, Some, None, Option, ◌==◌, nat_le}
+use Rattle.std.specs.Prelude.{ℕ, Bool, true, cond, ◌&&◌, Some, None, Option, ◌==◌, nat_le, nat_lt}
 use Rattle.board.specs.declared.row.RowKind.{RowKind}
 use Rattle.board.specs.declared.row.RowKind.TheVariants.{Plain, Open, Close, End}
 use Rattle.board.specs.declared.row.Row.{Row}
@@ -12,11 +12,13 @@ kind_number Open = 1
 kind_number Close = 2
 kind_number End = 3
 
+-- the kind that two bits stand for
+abbrev pub kind_of_bits : ℕ → RowKind
+kind_of_bits n = cond (n == kind_number Plain) Plain (cond (n == kind_number Open) Open (cond (n == kind_number Close) Close End))
+
 -- the kind of row that has the number
 abbrev pub kind_of_number : ℕ → Option RowKind
-kind_of_number n =
-    cond (n == kind_number Plain) (Some Plain)
-    (cond (n == kind_number Open) (Some Open) (cond (n == kind_number Close) (Some Close) (cond (n == kind_number End) (Some End) None)))
+kind_of_number n = cond (nat_lt n 4) (Some (kind_of_bits n)) None
 
 -- Label, action and modes are as the kind asks: of an open or close row the label is a bracket of 0 to 15 and the
 -- action 0; of an end row both are 0 and the modes are equal.

@@ -1,5 +1,6 @@
 -- Settling: the log of records, the newest first, that the rounds reach, and the reading that a settled log holds.
 use Rattle.std.specs.Prelude.{◌≡◌, ℕ, zero, suc, ◌<◌, ◌≤◌, false, ◌⊎◌, List, [], ◌∷◌, ◌++◌, map, Some, None, Option, ◌≢◌}
+use Rattle.std.specs.Option.{option_to_list}
 use Rattle.costs.specs.Meaning.{Meaning, NoDearer}
 use Rattle.board.specs.declared.moves.Move.{Move}
 use Rattle.board.specs.declared.moves.Effect.TheVariants.{Quiet, Opens, Closes, Ends}
@@ -95,8 +96,7 @@ Lex (x ∷ xs) (y ∷ ys) = (x < y) ⊎ ((x ≡ y) × Lex xs ys)
 
 -- a move's line as a list of at most one number
 abbrev pub line_key : Option ℕ → List ℕ
-line_key None = []
-line_key (Some j) = j ∷ []
+line_key o = option_to_list o
 
 -- a step before a call; steps by row and line; calls by open row, close row and the moment of opening
 abbrev pub derivation_key : Derivation → List ℕ

@@ -2,19 +2,19 @@
 
 // Places, M times T, at most. Places are numbered below it, and a pair of places is numbered by its first place times this, plus
 // its second.
-pub(crate) const PLACES: usize = 64;
+pub(crate) const MOST_PLACES: usize = 64;
 
 // Pairs of places, so records of a log, and calls that one record stands inside, at most.
-pub(crate) const PAIRS: usize = PLACES * PLACES;
+pub(crate) const PAIRS: usize = MOST_PLACES * MOST_PLACES;
 
 // Rows at most.
-pub(crate) const ROWS: usize = 128;
+pub(crate) const MOST_ROWS: usize = 128;
 
 // Lines at most.
-pub(crate) const LINES: usize = 128;
+pub(crate) const MOST_LINES: usize = 128;
 
 // Brackets that a check keeps open at once, at most.
-pub(crate) const OPEN_BRACKETS: usize = 4096;
+pub(crate) const MOST_OPEN: usize = 4096;
 
 // The number of moves that stands for itself and for every greater one.
 pub(crate) const MANY_MOVES: u32 = 65_536;

@@ -4,7 +4,7 @@ ghost use Rattle.board.specs.Held.{held};
 ghost use Rattle.board.specs.Checks.{bracketed, before_moves, take_named, take_move};
 ghost use Rattle.board.specs.Checkers.{unclosed_of, progress_of, left};
 
-use crate::bounds::OPEN_BRACKETS;
+use crate::bounds::MOST_OPEN;
 use crate::moves::{Effect, Move, Place};
 use crate::named::Named;
 use crate::refusal::Refusal;
@@ -15,7 +15,7 @@ use costs::Kind;
 // The brackets that are open, the last one last.
 #[derive(Drop)]
 pub(crate) struct OpenBrackets {
-    open: ArrayVec<u8, OPEN_BRACKETS>,
+    open: ArrayVec<u8, MOST_OPEN>,
 }
 
 // The place reached, the brackets open there, whether an end row was met, and the costs so far joined. (No optional place

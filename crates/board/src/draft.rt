@@ -10,7 +10,7 @@ ghost use Rattle.board.specs.Promises.{RecordsAreLeast, RecordedIsCheapest, Call
 ghost use Rattle.board.specs.Computing.{settled_log};
 ghost use Rattle.board.specs.Examples.{SettlingExamples};
 
-use crate::bounds::PLACES;
+use crate::bounds::MOST_PLACES;
 use crate::refusal::Refusal;
 use crate::row::{Line, Row};
 use crate::settled::Settled;
@@ -46,7 +46,7 @@ impl<K: Kind> Draft<K> {
             return Err(Refusal::NotEmpty);
         }
         let places = u64::from(modes) * u64::from(moments);
-        if places == 0 || places > PLACES as u64 {
+        if places == 0 || places > MOST_PLACES as u64 {
             return Err(Refusal::SizeOut);
         }
         tables.set_size(modes as u8, moments as u8);

@@ -5,7 +5,7 @@ ghost use Rattle.board.specs.Logs.{Book, Book-prop};
 ghost use Rattle.board.specs.Logged.{records};
 ghost use Rattle.board.specs.Computing.{settled_log};
 
-use crate::bounds::{MANY_MOVES, MOST_WRITTEN, PLACES};
+use crate::bounds::{MANY_MOVES, MOST_PLACES, MOST_WRITTEN};
 use crate::check::Fault;
 use crate::draft::Draft;
 use crate::log::Log;
@@ -137,7 +137,7 @@ impl<K: Kind> Settled<K> {
         ensures which { record_by_number self.now.log result ≡ record_between (settled_content self.now) (settled_records self.now) from to }
         ensures within { NumberIn self.now.log.count result }
     {
-        self.log.at(from * PLACES + to)
+        self.log.at(from * MOST_PLACES + to)
     }
 
     // The reading by the row at the place: the record from place 0 to there, and that row, if it is an end row.

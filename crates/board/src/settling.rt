@@ -2,7 +2,7 @@
 ghost use Rattle.board.specs.Held.{held};
 ghost use Rattle.board.specs.Logs.{Book, Book-prop};
 
-use crate::bounds::{PAIRS, PLACES, ROWS};
+use crate::bounds::{MOST_PLACES, MOST_ROWS, PAIRS};
 use crate::log::{Log, Record};
 use crate::moves::Place;
 use crate::tables::Tables;
@@ -25,7 +25,7 @@ pub(crate) use rounds::settled_log;
 #[derive(Drop)]
 pub(crate) struct Waiting {
     costs: [u32; PAIRS],
-    least: [u32; PLACES],
+    least: [u32; MOST_PLACES],
 }
 
 // The least costs beside the log; the worst stands where there is none. Places and pairs go by their numbers.
@@ -38,7 +38,7 @@ pub(crate) struct Waiting {
 pub(crate) struct Minima {
     links: [u32; PAIRS],
     waiting: Waiting,
-    leads: [bool; ROWS],
+    leads: [bool; MOST_ROWS],
 }
 
 // The tables and the log so far. (The least costs are lent apart from them, as they alone change. That a record is within

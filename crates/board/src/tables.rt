@@ -1,7 +1,7 @@
 // The tables of rows and lines, and their size: filled, asked, and read by moves.
 ghost use Rattle.board.specs.Content.{content, Sound};
 
-use crate::bounds::{LINES, PLACES, ROWS};
+use crate::bounds::{MOST_LINES, MOST_PLACES, MOST_ROWS};
 use crate::check::Fault;
 use crate::checker::Checker;
 use crate::moves::{Arrival, Move, Place};
@@ -17,8 +17,8 @@ use std::marker::PhantomData;
 pub struct Tables<K: Kind> {
     pub(crate) modes: u8,
     pub(crate) moments: u8,
-    pub(crate) rows: ArrayVec<Row, ROWS>,
-    pub(crate) lines: ArrayVec<Line, LINES>,
+    pub(crate) rows: ArrayVec<Row, MOST_ROWS>,
+    pub(crate) lines: ArrayVec<Line, MOST_LINES>,
     pub(crate) kind: PhantomData<K>,
     ghost sound: { Sound K.meaning (content modes moments rows.items lines.items) },
 }
@@ -55,7 +55,7 @@ impl<K: Kind> Tables<K> {
         requires no_rows { (held self.old).rows ≡ [] }
         requires no_lines { (held self.old).lines ≡ [] }
         requires some { 0 < modes * moments }
-        requires few { modes * moments ≤ PLACES }
+        requires few { modes * moments ≤ MOST_PLACES }
         ensures { held self.new ≡ with_size (held self.old) modes moments }
     {
         self.modes = modes;
@@ -64,7 +64,7 @@ impl<K: Kind> Tables<K> {
 
     // Puts a sound row last.
     pub(crate) fn push_row(&mut self, row: Row)
-        requires room { length (held self.old).rows < ROWS }
+        requires room { length (held self.old).rows < MOST_ROWS }
         requires sound { SoundRow K.meaning (held self.old) row }
         ensures { held self.new ≡ with_row (held self.old) row }
     {
@@ -73,7 +73,7 @@ impl<K: Kind> Tables<K> {
 
     // Puts a sound line last.
     pub(crate) fn push_line(&mut self, line: Line)
-        requires room { length (held self.old).lines < LINES }
+        requires room { length (held self.old).lines < MOST_LINES }
         requires sound { SoundLine K.meaning (held self.old) line }
         ensures { held self.new ≡ with_line (held self.old) line }
     {
@@ -143,7 +143,7 @@ impl<K: Kind> Tables<K> {
     pub(crate) fn pair(&self, from: Place, to: Place) -> usize
         ensures { result ≡ pair_of (held self.now) from to }
     {
-        self.place_number(from) * PLACES + self.place_number(to)
+        self.place_number(from) * MOST_PLACES + self.place_number(to)
     }
 
     // What the move names: nothing where a row or line is not held, there is a line where the row takes none, or none

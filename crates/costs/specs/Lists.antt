@@ -1,5 +1,6 @@
 -- Joining a list of numbers under a kind.
 use Rattle.std.specs.Prelude.{◌≡◌, ℕ, List, ◌++◌, Some, None, Ok, Err, Option, Result, not}
+use Rattle.std.specs.Option.{option_map_or}
 use Rattle.std.specs.List.{AllByRecursion, fold, position_from}
 use Rattle.costs.specs.Meaning.{Meaning, Cost}
 
@@ -19,14 +20,9 @@ joined m xs = joined_onto m m.free xs
 abbrev pub not_a_cost_from : Meaning → ℕ → List ℕ → Option ℕ
 not_a_cost_from m i xs = position_from (λ x. not (m.is_cost x)) i xs
 
--- the joined cost, unless some number of the list is no cost
-abbrev pub unless_not_a_cost : Option ℕ → ℕ → Result ℕ ℕ
-unless_not_a_cost None k = Ok k
-unless_not_a_cost (Some i) k = Err i
-
 -- what joining a list answers: its joined cost, or the index of the first number that is no cost
 abbrev pub join_answer : Meaning → List ℕ → Result ℕ ℕ
-join_answer m xs = unless_not_a_cost (not_a_cost_from m 0 xs) (joined m xs)
+join_answer m xs = option_map_or Err (not_a_cost_from m 0 xs) (Ok (joined m xs))
 
 -- a list cut anywhere: the two parts' totals joined are the whole's
 abbrev pub CutAnywhere : Meaning → Type 0

@@ -7,6 +7,7 @@ use Rattle.board.specs.Content.{Content, Sound}
 use Rattle.board.specs.Moves.{Place, mode, moment}
 use Rattle.board.specs.Settling.{Cheaper, In, Record, Unrecorded, Precedes, Round, Rounds, round, SettledLog}
 use Rattle.board.specs.Computing.{same_place, unrecorded?, candidates, precedes?, first_by, next_of, next, run_on, run}
+use Rattle.board.specs.Logs.{Reached}
 use Rattle.board.proofs.Basics.Laws.{no_dearer_eq, cheaper_no_dearer}
 use Rattle.board.proofs.Rounds.Candidates.{listed, unlisted, same_place_eq}
 use Rattle.board.proofs.Rounds.Minimal.{priced, candidate_cost}
@@ -49,10 +50,6 @@ unsettled_in log (y ∷ xs) x i = kept (unrecorded? log y) refl i (unsettled_in 
     kept true f (inl g) rest = (inl g, ap (unrecorded? log) g ∙ f)
     kept true f (inr g) rest = let r = rest g in (inr r.0, r.1)
     kept false f g rest = let r = rest g in (inr r.0, r.1)
-
--- the log after some number of rounds
-abbrev pub Reached : Meaning → Content → List Record → Type 0
-Reached m c log = (n : ℕ) × Rounds m c n log
 
 module _ {m : Meaning} {c : Content} (laws : Lawful m) (sound : Sound m c) where
   kept_cost : {n : ℕ} {log : List Record} → Rounds m c n log → (a : Record) → In a (filter (unrecorded? log) (candidates m c log)) → Cost m a.cost

@@ -10,7 +10,7 @@ ghost use Rattle.board.specs.Minima.{Link, Led};
 ghost use Rattle.board.specs.Minimizing.{LinksOf};
 ghost use Rattle.board.specs.Winning.{GoalOn, FindsOf, IsCallAt, IsCallBy, IsCallOpenedBy, IsCall, TightOf, BracketRows, Serve, ServeIn};
 
-use crate::bounds::ROWS;
+use crate::bounds::MOST_ROWS;
 use crate::log::Derivation;
 use crate::row::{Row, RowKind};
 use crate::settling::{Goal, Known};
@@ -122,7 +122,7 @@ impl<K: Kind> Known<'_, K> {
         requires cost { Cost K.meaning goal.cost }
         requires row { move_row (held self.now.tables.now) o ≡ ASome a }
         requires opens { a.kind ≡ Open }
-        requires short { length closers.now ≤ ROWS }
+        requires short { length closers.now ≤ MOST_ROWS }
         requires closers { Serve K.meaning (held self.now.tables.now) (mode goal.to) closers.now }
         requires tight { TightOf K.meaning self.now goal tight.now }
         ensures { FindsOf K.meaning self.now goal (IsCallOpenedBy o) result }
@@ -148,7 +148,7 @@ impl<K: Kind> Known<'_, K> {
     pub(crate) fn first_call(&self, goal: Goal, leads: &[bool], links: &[u32]) -> Option<Derivation>
         requires on { GoalOn (held self.now.tables.now) goal }
         requires cost { Cost K.meaning goal.cost }
-        requires leads { length leads.now ≡ ROWS }
+        requires leads { length leads.now ≡ MOST_ROWS }
         requires led { Led K.meaning (held self.now.tables.now) leads.now }
         requires links { LinksOf K.meaning self.now links.now }
         requires links_bounds { LowerBound K.meaning (Link K.meaning (held self.now.tables.now) self.now.log.now) links.now }

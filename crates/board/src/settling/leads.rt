@@ -4,7 +4,7 @@ ghost use Rattle.board.specs.Moves.{move_row};
 ghost use Rattle.board.specs.Held.{held};
 ghost use Rattle.board.specs.Minima.{StandsFor, Led};
 
-use crate::bounds::ROWS;
+use crate::bounds::MOST_ROWS;
 use crate::row::Row;
 use crate::tables::Tables;
 use costs::Kind;
@@ -32,9 +32,9 @@ impl<K: Kind> Tables<K> {
 
     // Marks one row of each sort, the cheapest, or the last of these.
     pub(crate) fn mark_leads(&self, leads: &mut [bool])
-        requires { length leads.old ≡ ROWS }
+        requires { length leads.old ≡ MOST_ROWS }
         ensures led { Led K.meaning (held self.now) leads.new }
-        ensures long { length leads.new ≡ ROWS }
+        ensures long { length leads.new ≡ MOST_ROWS }
     {
         let rows = self.rows.len() as u8;
         for n in 0..rows {

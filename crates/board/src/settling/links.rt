@@ -9,7 +9,7 @@ ghost use Rattle.board.specs.Lowering.{Just, Among};
 ghost use Rattle.board.specs.Minima.{OpensWay, Link, Followed, FollowedFrom, BracketedBy, BracketedOn, BracketedIn};
 ghost use Rattle.board.specs.Minimizing.{LinksOf, LinkedOf, LinksLower, WaitingOf, WaitingLower};
 
-use crate::bounds::{PLACES, ROWS};
+use crate::bounds::{MOST_PLACES, MOST_ROWS};
 use crate::moves::{Effect, Move, Place};
 use crate::settling::lower::lower;
 use crate::settling::{Known, Waiting, Way};
@@ -42,21 +42,21 @@ impl<K: Kind> Known<'_, K> {
         let a = self.log.records[i];
         let s = self.tables.place_number(a.from);
         let r = self.tables.place_number(a.to);
-        for q in 0..PLACES {
-            self.wait(s, q, K::join(a.cost, links[r * PLACES + q]), waiting);
+        for q in 0..MOST_PLACES {
+            self.wait(s, q, K::join(a.cost, links[r * MOST_PLACES + q]), waiting);
         }
     }
 
     // Lowers what waits by each record to the place numbered r with a link at this cost behind it, to the place numbered q.
     fn follow_to(&self, r: usize, q: usize, cost: u32, waiting: &mut Waiting)
-        requires from { r < PLACES }
-        requires to { q < PLACES }
-        requires link { (cost ≡ K.meaning.worst) ⊎ Link K.meaning (held self.now.tables.now) self.now.log.now (r * PLACES + q) cost }
+        requires from { r < MOST_PLACES }
+        requires to { q < MOST_PLACES }
+        requires link { (cost ≡ K.meaning.worst) ⊎ Link K.meaning (held self.now.tables.now) self.now.log.now (r * MOST_PLACES + q) cost }
         requires ok { WaitingOf K.meaning self.now waiting.old }
-        ensures { WaitingLower K.meaning self.now waiting.old waiting.new (λ m c l. Among (FollowedFrom m l r q cost) PLACES) }
+        ensures { WaitingLower K.meaning self.now waiting.old waiting.new (λ m c l. Among (FollowedFrom m l r q cost) MOST_PLACES) }
     {
-        for s in 0..PLACES {
-            if let Some(i) = self.log.at(s * PLACES + r) {
+        for s in 0..MOST_PLACES {
+            if let Some(i) = self.log.at(s * MOST_PLACES + r) {
                 let total = K::join(self.log.records[i].cost, cost);
                 self.wait(s, q, total, waiting);
             }
@@ -65,14 +65,14 @@ impl<K: Kind> Known<'_, K> {
 
     // Lowers the link between the places numbered r and q to this cost, and what waits, where it is cheaper.
     fn link(&self, r: usize, q: usize, cost: u32, links: &mut [u32], waiting: &mut Waiting)
-        requires from { r < PLACES }
-        requires to { q < PLACES }
-        requires link { (cost ≡ K.meaning.worst) ⊎ Link K.meaning (held self.now.tables.now) self.now.log.now (r * PLACES + q) cost }
+        requires from { r < MOST_PLACES }
+        requires to { q < MOST_PLACES }
+        requires link { (cost ≡ K.meaning.worst) ⊎ Link K.meaning (held self.now.tables.now) self.now.log.now (r * MOST_PLACES + q) cost }
         requires ok { LinkedOf K.meaning self.now links.old waiting.old }
         ensures ok { LinkedOf K.meaning self.now links.new waiting.new }
-        ensures lower { LinksLower K.meaning self.now links.old links.new (λ m c l. Just (r * PLACES + q) cost) }
+        ensures lower { LinksLower K.meaning self.now links.old links.new (λ m c l. Just (r * MOST_PLACES + q) cost) }
     {
-        if lower::<K>(links, r * PLACES + q, cost) {
+        if lower::<K>(links, r * MOST_PLACES + q, cost) {
             self.follow_to(r, q, cost, waiting);
         }
     }
@@ -111,7 +111,7 @@ impl<K: Kind> Known<'_, K> {
     // Lowers the links by the open row o, the record j and each marked close row.
     fn bracket_on(&self, j: usize, o: u8, leads: &[bool], links: &mut [u32], waiting: &mut Waiting)
         requires within { j < self.now.log.now.count }
-        requires leads { length leads.now ≡ ROWS }
+        requires leads { length leads.now ≡ MOST_ROWS }
         requires marked { slice_index_or leads.now o false ≡ true }
         requires ok { LinkedOf K.meaning self.now links.old waiting.old }
         ensures ok { LinkedOf K.meaning self.now links.new waiting.new }
@@ -139,7 +139,7 @@ impl<K: Kind> Known<'_, K> {
     // Lowers the links by the record j and any marked rows before and behind it.
     pub(crate) fn bracket(&self, j: usize, leads: &[bool], links: &mut [u32], waiting: &mut Waiting)
         requires within { j < self.now.log.now.count }
-        requires leads { length leads.now ≡ ROWS }
+        requires leads { length leads.now ≡ MOST_ROWS }
         requires ok { LinkedOf K.meaning self.now links.old waiting.old }
         ensures ok { LinkedOf K.meaning self.now links.new waiting.new }
         ensures lower { LinksLower K.meaning self.now links.old links.new (λ m c l. BracketedIn m c leads.now (numbered l j)) }

@@ -7,14 +7,14 @@ ghost use Rattle.board.specs.Minima.{Link, Led};
 ghost use Rattle.board.specs.Minimizing.{LinksOf};
 ghost use Rattle.board.specs.Winning.{GoalOn, Gathered, LineTo, TightOf, Serve, ServeIn};
 
-use crate::bounds::{LINES, PLACES, ROWS};
+use crate::bounds::{MOST_LINES, MOST_PLACES, MOST_ROWS};
 use crate::settling::{Goal, Known};
 use arrayvec::ArrayVec;
 use costs::Kind;
 
 impl<K: Kind> Known<'_, K> {
     // The lines that enter the moment, in order.
-    pub(crate) fn lines_to(&self, moment: u8) -> ArrayVec<u8, LINES>
+    pub(crate) fn lines_to(&self, moment: u8) -> ArrayVec<u8, MOST_LINES>
         ensures { Gathered (LineTo (held self.now.tables.now) moment) (length (held self.now.tables.now).lines) result.items }
     {
         let mut found = ArrayVec::new();
@@ -30,7 +30,7 @@ impl<K: Kind> Known<'_, K> {
     }
 
     // The places, by their numbers and in order, from which a link may make the goal.
-    pub(crate) fn tight(&self, goal: Goal, links: &[u32]) -> ArrayVec<u8, PLACES>
+    pub(crate) fn tight(&self, goal: Goal, links: &[u32]) -> ArrayVec<u8, MOST_PLACES>
         requires on { GoalOn (held self.now.tables.now) goal }
         requires cost { Cost K.meaning goal.cost }
         requires links { LinksOf K.meaning self.now links.now }
@@ -40,9 +40,9 @@ impl<K: Kind> Known<'_, K> {
         let mut found = ArrayVec::new();
         let s = self.tables.place_number(goal.from);
         let q = self.tables.place_number(goal.to);
-        for r in 0..PLACES {
-            if let Some(i) = self.log.at(s * PLACES + r) {
-                let cost = K::join(self.log.records[i].cost, links[r * PLACES + q]);
+        for r in 0..MOST_PLACES {
+            if let Some(i) = self.log.at(s * MOST_PLACES + r) {
+                let cost = K::join(self.log.records[i].cost, links[r * MOST_PLACES + q]);
                 if K::no_dearer(cost, goal.cost) {
                     found.push(r as u8);
                 }
@@ -52,11 +52,11 @@ impl<K: Kind> Known<'_, K> {
     }
 
     // The marked close rows that lead to the mode.
-    pub(crate) fn closers(&self, mode: u8, leads: &[bool]) -> ArrayVec<u8, ROWS>
-        requires long { length leads.now ≡ ROWS }
+    pub(crate) fn closers(&self, mode: u8, leads: &[bool]) -> ArrayVec<u8, MOST_ROWS>
+        requires long { length leads.now ≡ MOST_ROWS }
         requires led { Led K.meaning (held self.now.tables.now) leads.now }
         ensures serve { Serve K.meaning (held self.now.tables.now) mode result.items }
-        ensures short { length result.items ≤ ROWS }
+        ensures short { length result.items ≤ MOST_ROWS }
     {
         let mut found = ArrayVec::new();
         let rows = self.tables.rows.len() as u8;
@@ -71,8 +71,13 @@ impl<K: Kind> Known<'_, K> {
     }
 
     // Those of the bracket among these close rows.
-    pub(crate) fn closers_of(&self, bracket: u8, mode: u8, closers: &[u8]) -> ArrayVec<u8, ROWS>
-        requires short { length closers.now ≤ ROWS }
+    pub(crate) fn closers_of(
+        &self,
+        bracket: u8,
+        mode: u8,
+        closers: &[u8],
+    ) -> ArrayVec<u8, MOST_ROWS>
+        requires short { length closers.now ≤ MOST_ROWS }
         requires serve { Serve K.meaning (held self.now.tables.now) mode closers.now }
         ensures { ServeIn K.meaning (held self.now.tables.now) bracket mode result.items }
     {

@@ -7,7 +7,7 @@ ghost use Rattle.board.specs.Logs.{Kept, Book, Reached, RoundAdded, Refers, pair
 ghost use Rattle.board.specs.Minima.{SettlingInvariant};
 ghost use Rattle.board.specs.Winning.{LeastPair};
 
-use crate::bounds::{PAIRS, PLACES, ROWS};
+use crate::bounds::{MOST_PLACES, MOST_ROWS, PAIRS};
 use crate::log::{Derivation, Log, Record};
 use crate::settling::candidates::least_pair;
 use crate::settling::{Goal, Known, Minima, Waiting};
@@ -35,9 +35,9 @@ impl Settling {
                 links: [K::worst(); PAIRS],
                 waiting: Waiting {
                     costs: [K::worst(); PAIRS],
-                    least: [K::worst(); PLACES],
+                    least: [K::worst(); MOST_PLACES],
                 },
-                leads: [false; ROWS],
+                leads: [false; MOST_ROWS],
             },
         };
         tables.add_links(&mut settling.minima.links);
@@ -101,8 +101,8 @@ impl Settling {
     {
         let minima = &self.minima;
         let goal = Goal {
-            from: tables.place(pair / PLACES),
-            to: tables.place(pair % PLACES),
+            from: tables.place(pair / MOST_PLACES),
+            to: tables.place(pair % MOST_PLACES),
             cost: minima.waiting.costs[pair],
         };
         let known = Known {

@@ -8,7 +8,7 @@ ghost use Rattle.board.specs.Minima.{Link, Led};
 ghost use Rattle.board.specs.Minimizing.{LinksOf};
 ghost use Rattle.board.specs.Winning.{GoalOn, Makes, Wins, Any};
 
-use crate::bounds::ROWS;
+use crate::bounds::MOST_ROWS;
 use crate::log::Derivation;
 use crate::settling::{Goal, Known};
 use costs::Kind;
@@ -18,7 +18,7 @@ impl<K: Kind> Known<'_, K> {
     pub(crate) fn winner(&self, goal: Goal, leads: &[bool], links: &[u32]) -> Derivation
         requires on { GoalOn (held self.now.tables.now) goal }
         requires cost { Cost K.meaning goal.cost }
-        requires leads { length leads.now ≡ ROWS }
+        requires leads { length leads.now ≡ MOST_ROWS }
         requires led { Led K.meaning (held self.now.tables.now) leads.now }
         requires links { LinksOf K.meaning self.now links.now }
         requires links_bounds { LowerBound K.meaning (Link K.meaning (held self.now.tables.now) self.now.log.now) links.now }
