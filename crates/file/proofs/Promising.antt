@@ -132,8 +132,8 @@ module _ {m : Meaning} (laws : Lawful m) (promises : CallsKeepEaseAndSettle) whe
   since calls before after c c₀ e s f =
       ap (λ (t : State). state_from m t after) (sym f) ∙ sym (state_split m (draft new) before after) ∙ ap (state_after m) (sym s) ∙ e
 
-  pub main_promise : (calls : List Call) → AnswersCheapestWhenSettled m calls
-  main_promise calls c e =
+  pub answers_cheapest_when_settled : (calls : List Call) → AnswersCheapestWhenSettled m calls
+  answers_cheapest_when_settled calls c e =
       let sound = reached_sound calls c e in
       record {
         answered = λ k n h. reading c sound _ refl k n h;

@@ -13,7 +13,7 @@ use Rattle.board.specs.Questions.{cost_answer, path_answer, path_after, between_
 use Rattle.file.specs.declared.call.Call.{Call}
 use Rattle.file.specs.declared.call.Call.TheVariants.{Size, AddRow, AddLine, RepriceRow, RepriceLine, ClearLines, Load, Settle, Cost, Path, Between, Check, Reopen}
 use Rattle.file.specs.declared.call.Answer.{Answer}
-use Rattle.file.specs.declared.call.Answer.TheVariants as answer
+use Rattle.file.specs.declared.call.Answer.TheVariants as gives
 use Rattle.file.specs.declared.call.NoteSpan.{NoteSpan}
 use Rattle.file.specs.declared.refusal.LoadFault.{LoadFault}
 use Rattle.file.specs.Parts.{PartRead}
@@ -35,27 +35,27 @@ bytes_at n file = take n.length (drop n.place file)
 
 -- An answered note is the file's: what stands in the call's file at the answered place, so many bytes long, is the note.
 abbrev pub NoteStands : Meaning → Call → Answer → Type 0
-NoteStands m (Load file) (answer.Loaded (Ok n)) = load_answer m file.now ≡ Ok (record { bytes = bytes_at n file.now; place = n.place })
+NoteStands m (Load file) (gives.Loaded (Ok n)) = load_answer m file.now ≡ Ok (record { bytes = bytes_at n file.now; place = n.place })
 NoteStands m x a = Unit {0}
 
 -- a draft's answers, but to settle; it does not take the questions, nor reopen
 abbrev pub draft_answer : Meaning → Content → Call → Answer
-draft_answer m c (Size modes moments) = answer.Sized (answer (size_fault c modes moments) tt)
-draft_answer m c (AddRow r) = answer.Added (answer (row_fault m c r) (length c.rows))
-draft_answer m c (AddLine l) = answer.Added (answer (line_fault m c l) (length c.lines))
-draft_answer m c (RepriceRow i k) = answer.Repriced (answer (reprice_fault m c.rows i k) tt)
-draft_answer m c (RepriceLine i k) = answer.Repriced (answer (reprice_fault m c.lines i k) tt)
-draft_answer m c ClearLines = answer.Cleared (length c.lines)
-draft_answer m c (Load bytes) = answer.Loaded (spanned (load_answer m bytes.now))
-draft_answer m c x = answer.NotTaken
+draft_answer m c (Size modes moments) = gives.Sized (answer (size_fault c modes moments) tt)
+draft_answer m c (AddRow r) = gives.Added (answer (row_fault m c r) (length c.rows))
+draft_answer m c (AddLine l) = gives.Added (answer (line_fault m c l) (length c.lines))
+draft_answer m c (RepriceRow i k) = gives.Repriced (answer (reprice_fault m c.rows i k) tt)
+draft_answer m c (RepriceLine i k) = gives.Repriced (answer (reprice_fault m c.lines i k) tt)
+draft_answer m c ClearLines = gives.Cleared (length c.lines)
+draft_answer m c (Load bytes) = gives.Loaded (spanned (load_answer m bytes.now))
+draft_answer m c x = gives.NotTaken
 
 -- a settled board's answers, but to reopen, from its content and its records; of other calls it takes the questions alone
 abbrev pub settled_answer : Meaning → Content → List Record → Call → List ℕ → Answer
-settled_answer m c log Cost buffer = answer.Cost (cost_answer m c log)
-settled_answer m c log Path buffer = answer.Path (path_answer m c log buffer)
-settled_answer m c log (Between s q) buffer = answer.Between (between_answer c log s q)
-settled_answer m c log (Check moves) buffer = answer.Checked (check_answer m c moves.now)
-settled_answer m c log x buffer = answer.NotTaken
+settled_answer m c log Cost buffer = gives.Cost (cost_answer m c log)
+settled_answer m c log Path buffer = gives.Path (path_answer m c log buffer)
+settled_answer m c log (Between s q) buffer = gives.Between (between_answer c log s q)
+settled_answer m c log (Check moves) buffer = gives.Checked (check_answer m c moves.now)
+settled_answer m c log x buffer = gives.NotTaken
 
 -- path writes into the buffer, and no other question does
 abbrev pub settled_buffer : Meaning → Content → List Record → Call → List ℕ → List ℕ
@@ -64,11 +64,11 @@ settled_buffer m c log x buffer = buffer
 
 -- settling and reopening answer that they are done
 abbrev pub step_answer_draft : Meaning → Content → Call → Answer
-step_answer_draft m c Settle = answer.Settled
+step_answer_draft m c Settle = gives.Settled
 step_answer_draft m c x = draft_answer m c x
 
 abbrev pub step_answer_settled : Meaning → Content → List Record → Call → List ℕ → Answer
-step_answer_settled m c log Reopen buffer = answer.Reopened
+step_answer_settled m c log Reopen buffer = gives.Reopened
 step_answer_settled m c log x buffer = settled_answer m c log x buffer
 
 -- What a call answers on a board in that state, with those records where it is settled, and what it leaves of the buffer.
@@ -86,14 +86,14 @@ error_number f r = option_map f (result_err r)
 
 -- The number of the refusal that an answer holds, if it holds one.
 abbrev pub refused_with : Answer → Option ℕ
-refused_with (answer.Sized r) = error_number number r
-refused_with (answer.Added r) = error_number number r
-refused_with (answer.Repriced r) = error_number number r
-refused_with (answer.Loaded r) = error_number (λ (f : LoadFault). file_number f.refusal) r
-refused_with (answer.Cost r) = error_number number r
-refused_with (answer.Path r) = error_number number r
-refused_with (answer.Between r) = error_number number r
-refused_with (answer.Checked r) = error_number (λ (f : Fault). number f.refusal) r
+refused_with (gives.Sized r) = error_number number r
+refused_with (gives.Added r) = error_number number r
+refused_with (gives.Repriced r) = error_number number r
+refused_with (gives.Loaded r) = error_number (λ (f : LoadFault). file_number f.refusal) r
+refused_with (gives.Cost r) = error_number number r
+refused_with (gives.Path r) = error_number number r
+refused_with (gives.Between r) = error_number number r
+refused_with (gives.Checked r) = error_number (λ (f : Fault). number f.refusal) r
 refused_with a = None
 
 -- The numbers of the refusals that each call can give; settle, reopen and clear give none.

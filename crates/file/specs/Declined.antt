@@ -15,7 +15,7 @@ use Rattle.file.specs.Fields.{field, word4, word8, header_fields, head_code, row
 use Rattle.file.specs.Parts.{PartRead}
 use Rattle.file.specs.Sections.{rows_code, lines_code, note_code}
 use Rattle.file.specs.Records.{trusted_line}
-use Rattle.file.specs.Layout.{Description, held_in, row_bytes, line_bytes, one_byte, section_begun, section_written, header_written, written, KeepsLimits, content_of}
+use Rattle.file.specs.Layout.{Description, held_in, row_bytes, line_bytes, one_byte, section_begun, section_written, header_written, written, Count, KeepsLimits, content_of}
 
 -- The part that is due, and what the file describes before it.
 pub data Due : Type 0 where
@@ -39,12 +39,12 @@ before (at_line d n) = header_written d ++ (section_written rows_code row_bytes 
 before (at_note d n) = written d ++ section_begun note_code one_byte n []
 
 -- What is described before it keeps the limits, has no section that comes after, and in a section fewer than it counts.
-abbrev pub Stands : Meaning → Due → Type 0
-Stands m at_header = Unit {0}
-Stands m (at_head d) = KeepsLimits m d
-Stands m (at_row d n) = KeepsLimits m d × (d.lines ≡ None) × (d.note ≡ None) × (length (held_in d.rows) < n) × (n < 4096)
-Stands m (at_line d n) = KeepsLimits m d × (d.note ≡ None) × (length (held_in d.lines) < n) × (n < 4096)
-Stands m (at_note d n) = KeepsLimits m d × (d.note ≡ None) × (n < 4096)
+abbrev pub KeepsLimitsBefore : Meaning → Due → Type 0
+KeepsLimitsBefore m at_header = Unit {0}
+KeepsLimitsBefore m (at_head d) = KeepsLimits m d
+KeepsLimitsBefore m (at_row d n) = KeepsLimits m d × (d.lines ≡ None) × (d.note ≡ None) × (length (held_in d.rows) < n) × Count n
+KeepsLimitsBefore m (at_line d n) = KeepsLimits m d × (d.note ≡ None) × (length (held_in d.lines) < n) × Count n
+KeepsLimitsBefore m (at_note d n) = KeepsLimits m d × (d.note ≡ None) × Count n
 
 -- the board's refusal, as one of the file's
 abbrev pub by_board : Option Refusal → Option FileRefusal
@@ -106,7 +106,7 @@ part_fault m (at_note d n) bs = note_fault n bs
 -- come), and the part there breaks the fault's rule.
 pub record Declined (m : Meaning) (bytes : List ℕ) (f : LoadFault) : Type 0 where
   pub due : Due
-  pub stands : Stands m due
+  pub keeps : KeepsLimitsBefore m due
   pub rest : List ℕ
   pub laid_out : before due ++ rest ≡ bytes
   pub place : f.place ≡ length (before due)

@@ -1,9 +1,10 @@
 -- Worked examples of the layout, of trust and of a load.
-use Rattle.std.specs.Prelude.{◌≡◌, ℕ, List, [], ◌∷◌, Some, None, Ok, Err, slice_index_or}
+use Rattle.std.specs.Prelude.{◌≡◌, ℕ, List, [], ◌∷◌, Some, None, Ok, Err}
+use Rattle.std.specs.List.{slice_get}
 use Rattle.costs.specs.Kinds.{points, severity}
-use Rattle.board.specs.declared.row.RowKind.TheVariants.{End}
+use Rattle.board.specs.declared.row.RowKind.TheVariants.{Plain, End}
 use Rattle.board.specs.declared.row.Row.{Row}
-use Rattle.board.specs.Examples.{flight}
+use Rattle.board.specs.Examples.{row, flight}
 use Rattle.file.specs.declared.refusal.FileRefusal.TheVariants.{CutShort, WrongLetter, WrongSection}
 use Rattle.file.specs.Trust.{trusted}
 use Rattle.file.specs.Fields.{header_read, row_read}
@@ -13,11 +14,11 @@ use Rattle.file.specs.Layout.{Description, header_word, row_word, written}
 
 -- an end row at mode 0
 abbrev pub end_row : Row
-end_row = record { kind = End; from = 0; to = 0; label = 0; action = 0; cost = 0 }
+end_row = row End 0 0 0 0 0
 
 -- row 1 of the worked flight: plain, from mode 1 to mode 1, of event 1, action 7 and cost 4
 abbrev pub plain_row : Row
-plain_row = slice_index_or flight.rows 1 end_row
+plain_row = row Plain 1 1 1 7 4
 
 -- one mode, one moment, an end row, no section of lines, and the note 'hi'
 abbrev pub small : Description
@@ -31,6 +32,8 @@ pub record LayoutExamples : Type 0 where
   -- points, three modes, three moments, trust 16
   pub header_written : header_word 80 3 3 16 ≡ 0x50060C10
   pub header_taken : header_read points 0x50060C10 ≡ Ok (record { modes = 3; moments = 3; trust = 16 })
+  -- row 1 of the flight, which is written as this word, and read from it
+  pub row_held : slice_get flight.rows 1 ≡ Some plain_row
   pub row_written : row_word plain_row ≡ 0x0104041C00000004
   pub row_taken : row_read 0x0104041C00000004 ≡ Ok plain_row
   -- 5 under trust 8 is 2 and a half, which becomes 3; under trust 0 it is 0, and the worst is the worst

@@ -45,4 +45,4 @@ pub record OneCallMore {K : Type 0} {k : Ghosts K} (m : Meaning) (calls : List C
   pub records : records_of after ≡ defined_records m (state_after m (calls ++ (x ∷ [])))
   pub answered : told ≡ step_answer m (state_after m calls) (defined_records m (state_after m calls)) x buffer
   pub written : left ≡ step_buffer m (state_after m calls) (defined_records m (state_after m calls)) x buffer
-  pub promise : AnswersCheapestWhenSettled m (calls ++ (x ∷ []))
+  pub cheapest : AnswersCheapestWhenSettled m (calls ++ (x ∷ []))

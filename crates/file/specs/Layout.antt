@@ -90,9 +90,17 @@ header_written d = in_bytes 4 (header_word d.letter d.modes d.moments d.trust)
 abbrev pub written : Description → List ℕ
 written d = header_written d ++ sections_written d.rows d.lines d.note
 
+-- a number that so many bits hold
+abbrev pub InBits : ℕ → ℕ → Type 0
+InBits bits n = n < 2 ^ bits
+
 -- a number that is a byte
 abbrev pub Byte : ℕ → Type 0
-Byte b = b < 256
+Byte b = InBits 8 b
+
+-- a number that the count of a section's head holds, up to 4,095
+abbrev pub Count : ℕ → Type 0
+Count n = InBits 12 n
 
 -- The limits of a row on a board of so many modes.
 pub record RowLimits (m : Meaning) (modes : ℕ) (r : Row) : Type 0 where
@@ -101,11 +109,11 @@ pub record RowLimits (m : Meaning) (modes : ℕ) (r : Row) : Type 0 where
   pub well_formed : formed r.kind r ≡ true
   pub price : Cost m r.cost
   -- each fits its field
-  pub from_fits : r.from < 64
-  pub to_fits : r.to < 64
-  pub label_fits : r.label < 256
-  pub action_fits : r.action < 256
-  pub cost_fits : r.cost < 2 ^ 32
+  pub from_fits : InBits 6 r.from
+  pub to_fits : InBits 6 r.to
+  pub label_fits : Byte r.label
+  pub action_fits : Byte r.action
+  pub cost_fits : InBits 32 r.cost
 
 -- The limits of a line on a board of so many moments, under that trust.
 pub record LineLimits (m : Meaning) (moments trust : ℕ) (l : Line) : Type 0 where
@@ -114,29 +122,29 @@ pub record LineLimits (m : Meaning) (moments trust : ℕ) (l : Line) : Type 0 wh
   pub some_event : 0 < l.event
   pub price : Cost m (trusted m trust l.cost)
   -- each fits its field
-  pub from_fits : l.from < 64
-  pub to_fits : l.to < 64
-  pub event_fits : l.event < 256
-  pub cost_fits : l.cost < 2 ^ 32
+  pub from_fits : InBits 6 l.from
+  pub to_fits : InBits 6 l.to
+  pub event_fits : Byte l.event
+  pub cost_fits : InBits 32 l.cost
 
 -- The limits of a file of the kind m.
 pub record KeepsLimits (m : Meaning) (d : Description) : Type 0 where
   -- the header: the kind's letter, 1 to 64 places, trust 16 where it does not scale; each fits its field
   pub own_letter : d.letter ≡ m.letter
-  pub letter_fits : d.letter < 256
+  pub letter_fits : Byte d.letter
   pub some_place : 0 < d.modes * d.moments
   pub few_places : d.modes * d.moments ≤ most_places
-  pub modes_fit : d.modes < 128
-  pub moments_fit : d.moments < 128
+  pub modes_fit : InBits 7 d.modes
+  pub moments_fit : InBits 7 d.moments
   pub plain_trust : m.scaled ≡ false → d.trust ≡ 16
-  pub trust_fits : d.trust < 256
+  pub trust_fits : Byte d.trust
   -- at most 128 rows and 128 lines, which fits a count of 12 bits, each within its limits
   pub few_rows : length (held_in d.rows) ≤ most_rows
   pub rows_keep : AllByRecursion (RowLimits m d.modes) (held_in d.rows)
   pub few_lines : length (held_in d.lines) ≤ most_lines
   pub lines_keep : AllByRecursion (LineLimits m d.moments d.trust) (held_in d.lines)
   -- a note of at most 4,095 bytes
-  pub note_fits : length (held_in d.note) < 4096
+  pub note_fits : Count (length (held_in d.note))
   pub note_bytes : AllByRecursion Byte (held_in d.note)
 
 -- the most bytes of a file within its limits: a header of 4, a head of 2 and 128 times 8 of rows, as many of lines, and a

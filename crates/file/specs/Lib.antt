@@ -13,8 +13,9 @@ pub mod Promise
 pub mod Histories
 pub mod Laws
 -- Executable twins, which read a file from its front: a load accepts and makes what Layout describes, by `LoadsExactly` there,
--- and is declined as Declined says, by `DeclinesExactly` there. (Of them Declined names a word's fields, and Declined
--- and Layout name the codes of sections and a line at its trusted cost.)
+-- and is declined as Declined says, by `DeclinesExactly` there. (Of them Declined names a word's fields; Declined and
+-- Layout name the codes of sections and a line at its trusted cost; and States names `load_after`, Answers `load_answer`, and Laws
+-- both, of Load: what a load leaves, which is a new board where it is declined, and what it answers.)
 pub mod Fields
 pub mod Sections
 pub mod Records

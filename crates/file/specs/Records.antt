@@ -1,5 +1,6 @@
 -- Records of rows and lines, handed to the board one after the other.
 use Rattle.std.specs.Prelude.{ℕ, zero, suc, ◌+◌, cond, List, length, drop, Some, None, Ok, Err, Option, Result, nat_lt}
+use Rattle.std.specs.Result.{result_map_both}
 use Rattle.costs.specs.Meaning.{Meaning}
 use Rattle.board.specs.declared.refusal.Refusal.{Refusal}
 use Rattle.board.specs.declared.row.Row.{Row}
@@ -20,8 +21,7 @@ go_on (Err e) next = Err e
 
 -- a refusal in the part at that place
 abbrev pub at_place : {X : Type 0} → Result X FileRefusal → ℕ → Result X LoadFault
-at_place (Ok x) place = Ok x
-at_place (Err e) place = Err (fault_at e place)
+at_place r place = result_map_both (λ x. x) (λ e. fault_at e place) r
 
 -- what a call of the board leaves, or its refusal
 abbrev pub called : Option Refusal → Content → Result Content FileRefusal

@@ -14,9 +14,9 @@ use costs::Kind;
 pub fn replay<K: Kind>(calls: &[Call<'_>]) -> Board<K>
     ensures holds { MadeBy K.meaning calls.now result }
     ensures records { records_of result ≡ defined_records K.meaning (state_after K.meaning calls.now) }
-    ensures promise { AnswersCheapestWhenSettled K.meaning calls.now }
+    ensures cheapest { AnswersCheapestWhenSettled K.meaning calls.now }
 {
-    // (does nothing: it names what the board promises, on which `promise` rests)
+    // (does nothing: it names what the board promises, on which `cheapest` rests)
     board_theorems();
     let mut board = Board::Drafted(Draft::new());
     for call in calls {

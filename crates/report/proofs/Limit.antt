@@ -1,9 +1,9 @@
 -- The bytes that `least` does not read never show.
 use Rattle.std.proofs.Common.{◌≡◌, ℕ, List, [], ◌∷◌, take, get_or, refl, sym, ◌∙◌, subst}
 use Rattle.costs.specs.Meaning.{Meaning}
-use Rattle.file.specs.Laws.{FirstBytesTell}
+use Rattle.file.specs.Laws.{FirstBytesTell, telling_bytes}
 use Rattle.file.specs.Load.{load_answer, load_after}
-use Rattle.report.specs.Least.{meaning_under, SettledText, FileText, loaded, declined, Prints, bytes_read, LimitNeverShows}
+use Rattle.report.specs.Least.{meaning_under, SettledText, FileText, loaded, declined, Prints, LimitNeverShows}
 
 -- files of which a load answers the same and leaves the same have the same text
 same_load : (m : Meaning) (a b text : List ℕ) → load_answer m a ≡ load_answer m b → load_after m a ≡ load_after m b → FileText m a text → FileText m b text
@@ -16,13 +16,13 @@ prints_same m a b text answer after p = record {
   only = λ other q. p.only other (same_load m b a other (sym answer) (sym after) q);
 }
 
-same_letter : (bytes : List ℕ) → get_or (take bytes_read bytes) 0 80 ≡ get_or bytes 0 80
+same_letter : (bytes : List ℕ) → get_or (take telling_bytes bytes) 0 80 ≡ get_or bytes 0 80
 same_letter [] = refl
 same_letter (b ∷ bytes) = refl
 
 pub limit_never_shows : FirstBytesTell → LimitNeverShows
 limit_never_shows tell bytes text =
-    let first = take bytes_read bytes in
+    let first = take telling_bytes bytes in
     let m = meaning_under (get_or bytes 0 80) in
     let h = tell m bytes in
     let under : ℕ → Type 0 = λ (l : ℕ). Prints (meaning_under l) first text in (

@@ -51,6 +51,7 @@ worked promises = record {
   layout = record {
     header_written = refl;
     header_taken = refl;
+    row_held = refl;
     row_written = refl;
     row_taken = refl;
     halves_up = refl;

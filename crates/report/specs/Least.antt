@@ -17,7 +17,7 @@ use Rattle.board.specs.Promises.{NoReadingBelowWorst}
 use Rattle.file.specs.declared.refusal.LoadFault.{LoadFault}
 use Rattle.file.specs.Refusals.{load_fault_text}
 use Rattle.file.specs.Parts.{PartRead}
-use Rattle.file.specs.Laws.{telling}
+use Rattle.file.specs.Laws.{telling_bytes}
 use Rattle.file.specs.Load.{load_answer, load_after}
 
 -- the kind whose letter this is, and points under any other
@@ -89,10 +89,7 @@ pub record LeastWritten (bytes : List ℕ) (old new : Option (List ℕ)) : Type 
   pub printed : LeastPrints bytes text
   pub added : Appends old new text
 
--- how many bytes of its input the program `least` reads: so many as tell a load
-abbrev pub bytes_read : ℕ
-bytes_read = telling
-
--- That limit never shows: what is printed of a file's first bytes, so many, is what is printed of all of it.
+-- The limit of what the program `least` reads never shows: what is printed of a file's first bytes, so many as tell a load, is
+-- what is printed of all of it.
 abbrev pub LimitNeverShows : Type 0
-LimitNeverShows = (bytes text : List ℕ) → LeastPrints (take bytes_read bytes) text ↔ LeastPrints bytes text
+LimitNeverShows = (bytes text : List ℕ) → LeastPrints (take telling_bytes bytes) text ↔ LeastPrints bytes text

@@ -15,12 +15,12 @@ use Rattle.file.specs.declared.boards.Board.{Board}
 use Rattle.file.specs.declared.boards.Board.TheVariants as board
 use Rattle.file.specs.States.{State, draft, settled, edited, on_draft, on_settled, stepped, state_after}
 use Rattle.file.specs.declared.call.Answer.{Answer}
-use Rattle.file.specs.declared.call.Answer.TheVariants as answer
+use Rattle.file.specs.declared.call.Answer.TheVariants as gives
 use Rattle.file.specs.Answers.{draft_answer, settled_answer, settled_buffer, step_answer_draft, step_answer_settled, step_answer, step_buffer, NoteStands, GivesItsNumbers}
 use Rattle.file.specs.Histories.{state_of, records_of, defined_records, records_defined, MadeBy, OneCallMore}
 use Rattle.file.proofs.Loads.Standing.{asked_stands}
 use Rattle.file.proofs.Calls.Numbers.{gives_its_numbers}
-use Rattle.file.proofs.Promising.{state_split, main_promise}
+use Rattle.file.proofs.Promising.{state_split, answers_cheapest_when_settled}
 
 -- what `step` ensures
 abbrev pub Step : {K : Type 0} {k : Ghosts K} → Meaning → Board K k → Call → List ℕ → Board K k → Answer → List ℕ → Type 0
@@ -68,7 +68,7 @@ module _ {K : Type 0} {k : Ghosts K} (laws : Lawful k.meaning) (promises : Calls
           records = records_defined after ∙ ap (defined_records k.meaning) reached;
           answered = answer ∙ (λ i. step_answer k.meaning (h i) (log i) x buffer);
           written = written ∙ (λ i. step_buffer k.meaning (h i) (log i) x buffer);
-          promise = main_promise laws promises (calls ++ (x ∷ []));
+          cheapest = answers_cheapest_when_settled laws promises (calls ++ (x ∷ []));
         };
   }
 
@@ -77,19 +77,19 @@ module _ {K : Type 0} {k : Ghosts K} (laws : Lawful k.meaning) (promises : Calls
       subst (λ (b : Board K k). Step k.meaning b x buffer (board.Drafted e) told buffer) (sym is)
       (follows (board.Drafted d) x buffer (board.Drafted e) told buffer (ap draft after ∙ sym (draft_rest k.meaning (draft_content d) x other)) (answer ∙ sym (draft_told k.meaning (draft_content d) x other)) refl note)
 
-  pub settles_it : (b : Board K k) (d : Draft K k) (s : Settled K k) (x : Call) (buffer : List ℕ) → b ≡ board.Drafted d → x ≡ call.Settle → settled_content s ≡ draft_content d → Step k.meaning b x buffer (board.Settled s) answer.Settled buffer
+  pub settles_it : (b : Board K k) (d : Draft K k) (s : Settled K k) (x : Call) (buffer : List ℕ) → b ≡ board.Drafted d → x ≡ call.Settle → settled_content s ≡ draft_content d → Step k.meaning b x buffer (board.Settled s) gives.Settled buffer
   settles_it b d s x buffer is at same =
-      subst (λ (b : Board K k). Step k.meaning b x buffer (board.Settled s) answer.Settled buffer) (sym is)
-      (subst (λ (y : Call). Step k.meaning (board.Drafted d) y buffer (board.Settled s) answer.Settled buffer) (sym at)
-      (follows (board.Drafted d) call.Settle buffer (board.Settled s) answer.Settled buffer (ap settled same) refl refl tt))
+      subst (λ (b : Board K k). Step k.meaning b x buffer (board.Settled s) gives.Settled buffer) (sym is)
+      (subst (λ (y : Call). Step k.meaning (board.Drafted d) y buffer (board.Settled s) gives.Settled buffer) (sym at)
+      (follows (board.Drafted d) call.Settle buffer (board.Settled s) gives.Settled buffer (ap settled same) refl refl tt))
 
   pub asks_it : (b : Board K k) (s : Settled K k) (x : Call) (buffer : List ℕ) (told : Answer) (left : List ℕ) → b ≡ board.Settled s → (x ≡ call.Reopen → ⊥) → told ≡ settled_answer k.meaning (settled_content s) (settled_records s) x buffer → left ≡ settled_buffer k.meaning (settled_content s) (settled_records s) x buffer → Step k.meaning b x buffer (board.Settled s) told left
   asks_it b s x buffer told left is other answer written =
       subst (λ (b : Board K k). Step k.meaning b x buffer (board.Settled s) told left) (sym is)
       (follows (board.Settled s) x buffer (board.Settled s) told left (sym (settled_rest (settled_content s) x other)) (answer ∙ sym (settled_told k.meaning (settled_content s) (settled_records s) x buffer other)) written (asked_stands k.meaning (settled_content s) (settled_records s) x buffer told answer))
 
-  pub reopens_it : (b : Board K k) (s : Settled K k) (d : Draft K k) (x : Call) (buffer : List ℕ) → b ≡ board.Settled s → x ≡ call.Reopen → draft_content d ≡ settled_content s → Step k.meaning b x buffer (board.Drafted d) answer.Reopened buffer
+  pub reopens_it : (b : Board K k) (s : Settled K k) (d : Draft K k) (x : Call) (buffer : List ℕ) → b ≡ board.Settled s → x ≡ call.Reopen → draft_content d ≡ settled_content s → Step k.meaning b x buffer (board.Drafted d) gives.Reopened buffer
   reopens_it b s d x buffer is at same =
-      subst (λ (b : Board K k). Step k.meaning b x buffer (board.Drafted d) answer.Reopened buffer) (sym is)
-      (subst (λ (y : Call). Step k.meaning (board.Settled s) y buffer (board.Drafted d) answer.Reopened buffer) (sym at)
-      (follows (board.Settled s) call.Reopen buffer (board.Drafted d) answer.Reopened buffer (ap draft same) refl refl tt))
+      subst (λ (b : Board K k). Step k.meaning b x buffer (board.Drafted d) gives.Reopened buffer) (sym is)
+      (subst (λ (y : Call). Step k.meaning (board.Settled s) y buffer (board.Drafted d) gives.Reopened buffer) (sym at)
+      (follows (board.Settled s) call.Reopen buffer (board.Drafted d) gives.Reopened buffer (ap draft same) refl refl tt))

@@ -36,7 +36,7 @@ abbrev NotNext : ℕ → PartRead → Type 0
 NotNext code p = (length p.bytes < 2) ⊎ (head_code p.bytes ≡ code → ⊥)
 
 -- The file is described as far as p, with the content that x has.
-pub record Reached (m : Meaning) (bs : List ℕ) (d : Description) (rows : Option (List Row)) (lines : Option (List Line)) (note : Option (List ℕ)) (p : PartRead) (x : Loaded) : Type 0 where
+pub record DescribedUpTo (m : Meaning) (bs : List ℕ) (d : Description) (rows : Option (List Row)) (lines : Option (List Line)) (note : Option (List ℕ)) (p : PartRead) (x : Loaded) : Type 0 where
   pub keeps : KeepsLimits m (described d rows lines note)
   pub laid : header_written d ++ sections_on rows lines note p.bytes ≡ bs
   pub ends : p.place + length p.bytes ≡ length bs
@@ -75,7 +75,7 @@ module _ (rows : Option (List Row)) (lines : Option (List Line)) (note : Option 
 
 module _ (m : Meaning) (bs : List ℕ) (d : Description) where
   -- no section may come
-  head_declined : (rows : Option (List Row)) (lines : Option (List Line)) (note : Option (List ℕ)) (p : PartRead) (x : Loaded) (f : LoadFault) → Reached m bs d rows lines note p x → Passed stage.End rows lines note p → at_end p x ≡ Err f → Declined m bs f
+  head_declined : (rows : Option (List Row)) (lines : Option (List Line)) (note : Option (List ℕ)) (p : PartRead) (x : Loaded) (f : LoadFault) → DescribedUpTo m bs d rows lines note p x → Passed stage.End rows lines note p → at_end p x ≡ Err f → Declined m bs f
   unfolding Passed
   head_declined rows lines note p x f r passed h =
       let whole = described d rows lines note in
@@ -83,7 +83,7 @@ module _ (m : Meaning) (bs : List ℕ) (d : Description) where
       let laid : written whole ++ p.bytes ≡ bs = written_on d rows lines note p.bytes ∙ r.laid in
       record {
         due = at_head whole;
-        stands = r.keeps;
+        keeps = r.keeps;
         rest = p.bytes;
         laid_out = laid;
         place = t.0 ∙ place_of (written whole) p.bytes bs p.place laid r.ends;
@@ -92,7 +92,7 @@ module _ (m : Meaning) (bs : List ℕ) (d : Description) where
 
   module _ (rows : Option (List Row)) (lines : Option (List Line)) where
     -- the note is cut short
-    note_cut : (p : PartRead) (x : Loaded) (f : LoadFault) → Reached m bs d rows lines None p x → 2 ≤ length p.bytes → head_code p.bytes ≡ note_code → length (drop 2 p.bytes) < head_count p.bytes → go_on (section_added m d.trust (next_section p) x) (at_end (past p)) ≡ Err f → Declined m bs f
+    note_cut : (p : PartRead) (x : Loaded) (f : LoadFault) → DescribedUpTo m bs d rows lines None p x → 2 ≤ length p.bytes → head_code p.bytes ≡ note_code → length (drop 2 p.bytes) < head_count p.bytes → go_on (section_added m d.trust (next_section p) x) (at_end (past p)) ≡ Err f → Declined m bs f
     note_cut p x f r long is short h =
         let n = head_count p.bytes in
         let rest = drop 2 p.bytes in
@@ -108,7 +108,7 @@ module _ (m : Meaning) (bs : List ℕ) (d : Description) where
         let broken : ltb (length rest) n ≡ true = lt-ltb (length rest) n short in
         record {
           due = due;
-          stands = (r.keeps, refl, count_below (word2 p.bytes));
+          keeps = (r.keeps, refl, count_below (word2 p.bytes));
           rest = rest;
           laid_out = laid;
           place = ap (λ (z : LoadFault). z.place) fault ∙ place_of (before due) rest bs (p.place + 2) laid ends;
@@ -116,7 +116,7 @@ module _ (m : Meaning) (bs : List ℕ) (d : Description) where
         }
 
     -- the note is whole, and something follows it
-    note_whole : (p : PartRead) (x : Loaded) (f : LoadFault) → Reached m bs d rows lines None p x → 2 ≤ length p.bytes → head_code p.bytes ≡ note_code → head_count p.bytes ≤ length (drop 2 p.bytes) → go_on (section_added m d.trust (next_section p) x) (at_end (past p)) ≡ Err f → Declined m bs f
+    note_whole : (p : PartRead) (x : Loaded) (f : LoadFault) → DescribedUpTo m bs d rows lines None p x → 2 ≤ length p.bytes → head_code p.bytes ≡ note_code → head_count p.bytes ≤ length (drop 2 p.bytes) → go_on (section_added m d.trust (next_section p) x) (at_end (past p)) ≡ Err f → Declined m bs f
     unfolding Passed
     note_whole p x f r long is whole h =
         let n = head_count p.bytes in
@@ -141,7 +141,7 @@ module _ (m : Meaning) (bs : List ℕ) (d : Description) where
         (λ l e. absurd (true≢false (sym e)))
         (sym (ap (λ (o : Result Loaded LoadFault). go_on o (at_end (past p))) added) ∙ h)
 
-    note_stops : (p : PartRead) (x : Loaded) (f : LoadFault) → Reached m bs d rows lines None p x → Passed stage.Note rows lines None p → from_note m d.trust p x ≡ Err f → Declined m bs f
+    note_stops : (p : PartRead) (x : Loaded) (f : LoadFault) → DescribedUpTo m bs d rows lines None p x → Passed stage.Note rows lines None p → from_note m d.trust p x ≡ Err f → Declined m bs f
     note_stops p x f r passed h =
         elim (next_or_not note_code p.bytes) [
           | inl next ↦ elim (cases_lt (length (drop 2 p.bytes)) (head_count p.bytes)) [
@@ -152,7 +152,7 @@ module _ (m : Meaning) (bs : List ℕ) (d : Description) where
         ]
 
   -- lines come next, and stop among themselves
-  lines_cut : (rows : Option (List Row)) (p : PartRead) (x : Loaded) (f : LoadFault) → Reached m bs d rows None None p x → 2 ≤ length p.bytes → head_code p.bytes ≡ lines_code → records_added (line_record m d.trust) (head_count p.bytes) (drop 2 p.bytes) (p.place + 2) (content_of m (described d rows None None)) ≡ Err f → Declined m bs f
+  lines_cut : (rows : Option (List Row)) (p : PartRead) (x : Loaded) (f : LoadFault) → DescribedUpTo m bs d rows None None p x → 2 ≤ length p.bytes → head_code p.bytes ≡ lines_code → records_added (line_record m d.trust) (head_count p.bytes) (drop 2 p.bytes) (p.place + 2) (content_of m (described d rows None None)) ≡ Err f → Declined m bs f
   lines_cut rows p x f r long is e =
       let n = head_count p.bytes in
       let c = content_of m (described d rows None None) in
@@ -171,7 +171,7 @@ module _ (m : Meaning) (bs : List ℕ) (d : Description) where
       let broken = refused_with (line_part_fault m d.trust (content_of m whole) s.rest) _ s.refusal (sym (line_rules m d.trust (content_of m whole) s.rest) ∙ (ap (λ (z : Content). record_next (line_record m d.trust) s.rest z) (sym k.2) ∙ s.broken)) in
       record {
         due = due;
-        stands = (keeps_lines d rows ls r.keeps (omega (arith, k.0)) k.1, refl, s.more, count_below (word2 p.bytes));
+        keeps = (keeps_lines d rows ls r.keeps (omega (arith, k.0)) k.1, refl, s.more, count_below (word2 p.bytes));
         rest = s.rest;
         laid_out = laid;
         place = ap (λ (z : LoadFault). z.place) s.is ∙ place_of (before due) s.rest bs (p.place + 2 + 8 * length ls) laid ends;
@@ -179,7 +179,7 @@ module _ (m : Meaning) (bs : List ℕ) (d : Description) where
       }
 
   -- lines are whole, and something behind them is refused
-  lines_whole : (rows : Option (List Row)) (p : PartRead) (x : Loaded) (f : LoadFault) (c : Content) → Reached m bs d rows None None p x → 2 ≤ length p.bytes → head_code p.bytes ≡ lines_code → records_added (line_record m d.trust) (head_count p.bytes) (drop 2 p.bytes) (p.place + 2) (content_of m (described d rows None None)) ≡ Ok c → from_note m d.trust (past p) (loaded_as c x.note) ≡ Err f → Declined m bs f
+  lines_whole : (rows : Option (List Row)) (p : PartRead) (x : Loaded) (f : LoadFault) (c : Content) → DescribedUpTo m bs d rows None None p x → 2 ≤ length p.bytes → head_code p.bytes ≡ lines_code → records_added (line_record m d.trust) (head_count p.bytes) (drop 2 p.bytes) (p.place + 2) (content_of m (described d rows None None)) ≡ Ok c → from_note m d.trust (past p) (loaded_as c x.note) ≡ Err f → Declined m bs f
   unfolding Passed
   lines_whole rows p x f c r long is e h =
       let n = head_count p.bytes in
@@ -200,11 +200,11 @@ module _ (m : Meaning) (bs : List ℕ) (d : Description) where
       (λ l k. k)
       h
 
-  lines_by : (rows : Option (List Row)) (p : PartRead) (x : Loaded) (f : LoadFault) (o : Result Content LoadFault) → Reached m bs d rows None None p x → 2 ≤ length p.bytes → head_code p.bytes ≡ lines_code → records_added (line_record m d.trust) (head_count p.bytes) (drop 2 p.bytes) (p.place + 2) (content_of m (described d rows None None)) ≡ o → go_on (go_on o (with_content x)) (from_note m d.trust (past p)) ≡ Err f → Declined m bs f
+  lines_by : (rows : Option (List Row)) (p : PartRead) (x : Loaded) (f : LoadFault) (o : Result Content LoadFault) → DescribedUpTo m bs d rows None None p x → 2 ≤ length p.bytes → head_code p.bytes ≡ lines_code → records_added (line_record m d.trust) (head_count p.bytes) (drop 2 p.bytes) (p.place + 2) (content_of m (described d rows None None)) ≡ o → go_on (go_on o (with_content x)) (from_note m d.trust (past p)) ≡ Err f → Declined m bs f
   lines_by rows p x f (Err g) r long is e h = let same : g ≡ f = cc in lines_cut rows p x f r long is (e ∙ ap (λ (z : LoadFault). Err z) same)
   lines_by rows p x f (Ok c) r long is e h = lines_whole rows p x f c r long is e h
 
-  lines_stops : (rows : Option (List Row)) (p : PartRead) (x : Loaded) (f : LoadFault) → Reached m bs d rows None None p x → Passed stage.Lines rows None None p → from_lines m d.trust p x ≡ Err f → Declined m bs f
+  lines_stops : (rows : Option (List Row)) (p : PartRead) (x : Loaded) (f : LoadFault) → DescribedUpTo m bs d rows None None p x → Passed stage.Lines rows None None p → from_lines m d.trust p x ≡ Err f → Declined m bs f
   lines_stops rows p x f r passed h =
       elim (next_or_not lines_code p.bytes) [
         | inl next ↦
@@ -214,7 +214,7 @@ module _ (m : Meaning) (bs : List ℕ) (d : Description) where
       ]
 
   -- the same of rows
-  rows_cut : (p : PartRead) (x : Loaded) (f : LoadFault) → Reached m bs d None None None p x → 2 ≤ length p.bytes → head_code p.bytes ≡ rows_code → records_added (row_record m) (head_count p.bytes) (drop 2 p.bytes) (p.place + 2) (content_of m (described d None None None)) ≡ Err f → Declined m bs f
+  rows_cut : (p : PartRead) (x : Loaded) (f : LoadFault) → DescribedUpTo m bs d None None None p x → 2 ≤ length p.bytes → head_code p.bytes ≡ rows_code → records_added (row_record m) (head_count p.bytes) (drop 2 p.bytes) (p.place + 2) (content_of m (described d None None None)) ≡ Err f → Declined m bs f
   rows_cut p x f r long is e =
       let n = head_count p.bytes in
       let c = content_of m (described d None None None) in
@@ -231,14 +231,14 @@ module _ (m : Meaning) (bs : List ℕ) (d : Description) where
       let broken = refused_with (row_part_fault m (content_of m whole) s.rest) _ s.refusal (sym (row_rules m (content_of m whole) s.rest) ∙ (ap (λ (z : Content). record_next (row_record m) s.rest z) (sym k.2) ∙ s.broken)) in
       record {
         due = due;
-        stands = (keeps_rows d rs r.keeps (omega (arith, k.0)) k.1, refl, refl, s.more, count_below (word2 p.bytes));
+        keeps = (keeps_rows d rs r.keeps (omega (arith, k.0)) k.1, refl, refl, s.more, count_below (word2 p.bytes));
         rest = s.rest;
         laid_out = laid;
         place = ap (λ (z : LoadFault). z.place) s.is ∙ place_of (before due) s.rest bs (p.place + 2 + 8 * length rs) laid ends;
         broken = broken ∙ ap (λ (z : LoadFault). Some z.refusal) (sym s.is);
       }
 
-  rows_whole : (p : PartRead) (x : Loaded) (f : LoadFault) (c : Content) → Reached m bs d None None None p x → 2 ≤ length p.bytes → head_code p.bytes ≡ rows_code → records_added (row_record m) (head_count p.bytes) (drop 2 p.bytes) (p.place + 2) (content_of m (described d None None None)) ≡ Ok c → from_lines m d.trust (past p) (loaded_as c x.note) ≡ Err f → Declined m bs f
+  rows_whole : (p : PartRead) (x : Loaded) (f : LoadFault) (c : Content) → DescribedUpTo m bs d None None None p x → 2 ≤ length p.bytes → head_code p.bytes ≡ rows_code → records_added (row_record m) (head_count p.bytes) (drop 2 p.bytes) (p.place + 2) (content_of m (described d None None None)) ≡ Ok c → from_lines m d.trust (past p) (loaded_as c x.note) ≡ Err f → Declined m bs f
   unfolding Passed
   rows_whole p x f c r long is e h =
       let n = head_count p.bytes in
@@ -259,11 +259,11 @@ module _ (m : Meaning) (bs : List ℕ) (d : Description) where
       (λ l k. k)
       h
 
-  rows_by : (p : PartRead) (x : Loaded) (f : LoadFault) (o : Result Content LoadFault) → Reached m bs d None None None p x → 2 ≤ length p.bytes → head_code p.bytes ≡ rows_code → records_added (row_record m) (head_count p.bytes) (drop 2 p.bytes) (p.place + 2) (content_of m (described d None None None)) ≡ o → go_on (go_on o (with_content x)) (from_lines m d.trust (past p)) ≡ Err f → Declined m bs f
+  rows_by : (p : PartRead) (x : Loaded) (f : LoadFault) (o : Result Content LoadFault) → DescribedUpTo m bs d None None None p x → 2 ≤ length p.bytes → head_code p.bytes ≡ rows_code → records_added (row_record m) (head_count p.bytes) (drop 2 p.bytes) (p.place + 2) (content_of m (described d None None None)) ≡ o → go_on (go_on o (with_content x)) (from_lines m d.trust (past p)) ≡ Err f → Declined m bs f
   rows_by p x f (Err g) r long is e h = let same : g ≡ f = cc in rows_cut p x f r long is (e ∙ ap (λ (z : LoadFault). Err z) same)
   rows_by p x f (Ok c) r long is e h = rows_whole p x f c r long is e h
 
-  pub rows_stops : (p : PartRead) (x : Loaded) (f : LoadFault) → Reached m bs d None None None p x → from_rows m d.trust p x ≡ Err f → Declined m bs f
+  pub rows_stops : (p : PartRead) (x : Loaded) (f : LoadFault) → DescribedUpTo m bs d None None None p x → from_rows m d.trust p x ≡ Err f → Declined m bs f
   unfolding Passed
   rows_stops p x f r h =
       elim (next_or_not rows_code p.bytes) [

@@ -1,5 +1,5 @@
 -- What a file describes so far, section by section.
-use Rattle.std.proofs.Common.{◌≡◌, ℕ, ◌+◌, ◌*◌, ◌<◌, ◌≤◌, List, [], ◌++◌, length, drop, Some, None, Option, Result, refl, ap, ◌∙◌, append_assoc, append-nil, arith, length-append}
+use Rattle.std.proofs.Common.{◌≡◌, ℕ, ◌+◌, ◌*◌, ◌≤◌, List, [], ◌++◌, length, drop, Some, None, Option, Result, refl, ap, ◌∙◌, append_assoc, append-nil, arith, length-append}
 use Rattle.std.specs.List.{AllByRecursion}
 use Rattle.costs.specs.Meaning.{Meaning}
 use Rattle.board.specs.declared.row.Row.{Row}
@@ -11,7 +11,7 @@ use Rattle.file.specs.Parts.{PartRead}
 use Rattle.file.specs.Sections.{rows_code, lines_code, note_code, next_section}
 use Rattle.file.specs.Records.{go_on, row_record, line_record, records_added}
 use Rattle.file.specs.Load.{Loaded, with_content, section_added}
-use Rattle.file.specs.Layout.{Description, row_bytes, line_bytes, one_byte, section_written, header_written, written, Byte, RowLimits, LineLimits, KeepsLimits}
+use Rattle.file.specs.Layout.{Description, row_bytes, line_bytes, one_byte, section_written, header_written, written, Byte, RowLimits, LineLimits, KeepsLimits, Count}
 use Rattle.file.proofs.Faults.Stops.{records_front}
 use Rattle.file.proofs.Loads.Tails.{rows_section, lines_section}
 
@@ -59,7 +59,7 @@ keeps_lines d rows ls k few keep =
       note_bytes = k.note_bytes;
     }
 
-pub keeps_note : {m : Meaning} (d : Description) (rows : Option (List Row)) (lines : Option (List Line)) (bs : List ℕ) → KeepsLimits m (described d rows lines None) → length bs < 4096 → AllByRecursion Byte bs → KeepsLimits m (described d rows lines (Some bs))
+pub keeps_note : {m : Meaning} (d : Description) (rows : Option (List Row)) (lines : Option (List Line)) (bs : List ℕ) → KeepsLimits m (described d rows lines None) → Count (length bs) → AllByRecursion Byte bs → KeepsLimits m (described d rows lines (Some bs))
 keeps_note d rows lines bs k few each =
     record {
       own_letter = k.own_letter;

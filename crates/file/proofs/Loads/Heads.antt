@@ -6,7 +6,7 @@ use Rattle.std.specs.List.{AllByRecursion}
 use Rattle.file.specs.Fields.{field, word2, head_code, head_count}
 use Rattle.file.specs.Parts.{PartRead}
 use Rattle.file.specs.Sections.{past}
-use Rattle.file.specs.Layout.{in_bytes, head_word, Byte}
+use Rattle.file.specs.Layout.{in_bytes, head_word, Byte, Count}
 use Rattle.file.proofs.Loads.Bytes.{word2_bytes, bytes_word2, word2_fits}
 use Rattle.file.proofs.Loads.Words.{head_word_fits, head_word_code, head_word_count, head_read_word}
 
@@ -33,7 +33,7 @@ pub record HeadAt (bs : List ℕ) (code n size : ℕ) (body rest : List ℕ) : T
   pub its_body : take size (drop 2 bs) ≡ body
   pub its_rest : drop size (drop 2 bs) ≡ rest
 
-pub head_at : (bs : List ℕ) (code n size : ℕ) (body rest : List ℕ) → code < 16 → n < 4096 → length body ≡ size → bs ≡ in_bytes 2 (head_word code n) ++ (body ++ rest) → HeadAt bs code n size body rest
+pub head_at : (bs : List ℕ) (code n size : ℕ) (body rest : List ℕ) → code < 16 → Count n → length body ≡ size → bs ≡ in_bytes 2 (head_word code n) ++ (body ++ rest) → HeadAt bs code n size body rest
 head_at bs code n size body rest small few long laid =
     let w = word2_bytes (head_word code n) (body ++ rest) (head_word_fits code n small few) in
     subst (λ (xs : List ℕ). HeadAt xs code n size body rest) (sym laid) (

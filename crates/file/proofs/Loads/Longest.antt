@@ -1,12 +1,12 @@
 -- A file that loads has at most 6,153 bytes.
-use Rattle.std.proofs.Common.{◌≡◌, ℕ, ◌<◌, ◌≤◌, List, ◌++◌, length, Some, None, Ok, Err, Option, Result, IfOk, refl, ap, subst, arith, length-append}
+use Rattle.std.proofs.Common.{◌≡◌, ℕ, ◌≤◌, List, ◌++◌, length, Some, None, Ok, Err, Option, Result, IfOk, refl, ap, subst, arith, length-append}
 use Rattle.costs.specs.Meaning.{Meaning}
 use Rattle.board.specs.Content.{Content}
 use Rattle.file.specs.declared.part.Part.{Part}
 use Rattle.file.specs.declared.refusal.LoadFault.{LoadFault}
 use Rattle.file.specs.Parts.{part_read, answered}
 use Rattle.file.specs.Sections.{rows_code, lines_code, note_code}
-use Rattle.file.specs.Layout.{Description, held_in, row_bytes, line_bytes, one_byte, section_written, written, KeepsLimits, LoadsExactly, longest_file}
+use Rattle.file.specs.Layout.{Description, held_in, row_bytes, line_bytes, one_byte, section_written, written, KeepsLimits, LoadsExactly, longest_file, Count}
 use Rattle.file.proofs.Loads.Tails.{each_length, bytes_written}
 
 -- a section of at most 128 rows or lines, each of eight bytes
@@ -15,7 +15,7 @@ records_length code f h None few = omega arith
 records_length code f h (Some xs) few = omega (arith, each_length f h xs)
 
 -- a note of at most 4,095 bytes
-note_length : (o : Option (List ℕ)) → length (held_in o) < 4096 → length (section_written note_code one_byte o) ≤ 4097
+note_length : (o : Option (List ℕ)) → Count (length (held_in o)) → length (section_written note_code one_byte o) ≤ 4097
 note_length None few = omega arith
 note_length (Some bs) few = omega (arith, ap length (bytes_written bs))
 

@@ -8,7 +8,7 @@ use Rattle.board.specs.Settling.{Record}
 use Rattle.file.specs.declared.call.Call.{Call}
 use Rattle.file.specs.declared.call.Call.TheVariants as call
 use Rattle.file.specs.declared.call.Answer.{Answer}
-use Rattle.file.specs.declared.call.Answer.TheVariants as answer
+use Rattle.file.specs.declared.call.Answer.TheVariants as gives
 use Rattle.file.specs.declared.call.NoteSpan.{NoteSpan}
 use Rattle.file.specs.declared.refusal.LoadFault.{LoadFault}
 use Rattle.file.specs.Parts.{PartRead}
@@ -47,7 +47,7 @@ described : (d : Description) → bytes_at (span (note_of d)) (written d) ≡ (n
 described d = let b = ends d d.note refl in at_end d.note (written d) b.0 b.1
 
 -- what a load answers
-pub load_stands : (m : Meaning) (file : Bor (List ℕ)) (a : Result PartRead LoadFault) (after : Content) (r : Result NoteSpan LoadFault) → LoadsExactly m file.now a after → a ≡ load_answer m file.now → r ≡ spanned a → NoteStands m (call.Load file) (answer.Loaded r)
+pub load_stands : (m : Meaning) (file : Bor (List ℕ)) (a : Result PartRead LoadFault) (after : Content) (r : Result NoteSpan LoadFault) → LoadsExactly m file.now a after → a ≡ load_answer m file.now → r ≡ spanned a → NoteStands m (call.Load file) (gives.Loaded r)
 load_stands m file a after (Err e) exact is same = tt
 load_stands m file (Err f) after (Ok n) exact is same = absurd cc
 load_stands m file (Ok p) after (Ok n) exact is same =

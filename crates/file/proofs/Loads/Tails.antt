@@ -15,7 +15,7 @@ use Rattle.file.specs.Parts.{PartRead, fault_at}
 use Rattle.file.specs.Sections.{rows_code, lines_code, note_code, next_section, past}
 use Rattle.file.specs.Records.{go_on, trusted_line, row_record, line_record, records_added}
 use Rattle.file.specs.Load.{Loaded, loaded_as, with_content, section_added, at_end, from_note, from_lines, from_rows}
-use Rattle.file.specs.Layout.{held_in, in_bytes, head_word, row_bytes, line_bytes, one_byte, section_written, sections_written, Byte, RowLimits, LineLimits}
+use Rattle.file.specs.Layout.{held_in, in_bytes, head_word, row_bytes, line_bytes, one_byte, section_written, sections_written, Byte, RowLimits, LineLimits, Count}
 use Rattle.file.proofs.Loads.Bytes.{each_take, each_drop}
 use Rattle.file.proofs.Loads.Words.{count_below}
 use Rattle.file.proofs.Loads.Turns.{passes_note, passes_lines, passes_rows, takes_note, takes_lines, takes_rows}
@@ -42,7 +42,7 @@ pub record Tail (m : Meaning) (trust : ℕ) (rows : Option (List Row)) (lines : 
   pub rows_keep : AllByRecursion (RowLimits m x.content.modes) (held_in rows)
   pub few_lines : length x.content.lines + length (held_in lines) ≤ 128
   pub lines_keep : AllByRecursion (LineLimits m x.content.moments trust) (held_in lines)
-  pub note_fits : length (held_in note) < 4096
+  pub note_fits : Count (length (held_in note))
   pub note_bytes : AllByRecursion Byte (held_in note)
   pub content : y.content ≡ put_lines m trust lines (put_rows rows x.content)
   pub noted : y.note ≡ put_note note (p.place + length p.bytes) x.note
@@ -113,7 +113,7 @@ module _ (m : Meaning) (trust : ℕ) where
       }
 
   -- a note is left
-  note_made : (p : PartRead) (x y : Loaded) (front : List ℕ) → length x.content.rows ≤ 128 → length x.content.lines ≤ 128 → p.bytes ≡ in_bytes 2 (head_word note_code (length front)) ++ (front ++ []) → length front < 4096 → AllByRecursion Byte front → loaded_as x.content (record { bytes = front; place = p.place + 2 }) ≡ y → Tail m trust None None (Some front) p x y
+  note_made : (p : PartRead) (x y : Loaded) (front : List ℕ) → length x.content.rows ≤ 128 → length x.content.lines ≤ 128 → p.bytes ≡ in_bytes 2 (head_word note_code (length front)) ++ (front ++ []) → Count (length front) → AllByRecursion Byte front → loaded_as x.content (record { bytes = front; place = p.place + 2 }) ≡ y → Tail m trust None None (Some front) p x y
   note_made p x y front few_rows few_lines laid fits e is =
       let all : length p.bytes ≡ 2 + length front = omega (arith, ap length laid, ap length (append-nil front)) in
       let place : p.place + 2 ≡ (p.place + length p.bytes) - length front = omega arith in
@@ -237,7 +237,7 @@ module _ (m : Meaning) (trust : ℕ) where
       ]
 
 -- a list that begins with a section of one code, or without it with no section of code k, has no section of code k next
-pub not_next : {A : Type 0} (k code : ℕ) (f : A → List ℕ) (o : Option (List A)) (bs rest : List ℕ) → code < 16 → (code ≡ k → ⊥) → length (held_in o) < 4096 → bs ≡ section_written code f o ++ rest → (o ≡ None → (length rest < 2) ⊎ (head_code rest ≡ k → ⊥)) → (length bs < 2) ⊎ (head_code bs ≡ k → ⊥)
+pub not_next : {A : Type 0} (k code : ℕ) (f : A → List ℕ) (o : Option (List A)) (bs rest : List ℕ) → code < 16 → (code ≡ k → ⊥) → Count (length (held_in o)) → bs ≡ section_written code f o ++ rest → (o ≡ None → (length rest < 2) ⊎ (head_code rest ≡ k → ⊥)) → (length bs < 2) ⊎ (head_code bs ≡ k → ⊥)
 not_next k code f None bs rest small other few laid h = subst (λ (ys : List ℕ). (length ys < 2) ⊎ (head_code ys ≡ k → ⊥)) (sym laid) (h refl)
 not_next k code f (Some xs) bs rest small other few laid h =
     let a = head_at bs code (length xs) (length (flat_map f xs)) (flat_map f xs) rest small few refl laid in

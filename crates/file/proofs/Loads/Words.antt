@@ -11,21 +11,21 @@ use Rattle.board.specs.Rows.{kind_number}
 use Rattle.file.specs.declared.fields.Header.{Header}
 use Rattle.file.specs.declared.refusal.FileRefusal.{FileRefusal}
 use Rattle.file.specs.Fields.{field, kind_at, row_fields, row_read, line_fields, line_read, header_fields, header_read}
-use Rattle.file.specs.Layout.{row_word, line_word, head_word, header_word}
+use Rattle.file.specs.Layout.{row_word, line_word, head_word, header_word, InBits, Byte, Count}
 
 -- the numbers of a row and of a line fit their fields
 pub record RowFits (r : Row) : Type 0 where
-  pub from_fits : r.from < 64
-  pub to_fits : r.to < 64
-  pub label_fits : r.label < 256
-  pub action_fits : r.action < 256
-  pub cost_fits : r.cost < 2 ^ 32
+  pub from_fits : InBits 6 r.from
+  pub to_fits : InBits 6 r.to
+  pub label_fits : Byte r.label
+  pub action_fits : Byte r.action
+  pub cost_fits : InBits 32 r.cost
 
 pub record LineFits (l : Line) : Type 0 where
-  pub from_fits : l.from < 64
-  pub to_fits : l.to < 64
-  pub event_fits : l.event < 256
-  pub cost_fits : l.cost < 2 ^ 32
+  pub from_fits : InBits 6 l.from
+  pub to_fits : InBits 6 l.to
+  pub event_fits : Byte l.event
+  pub cost_fits : InBits 32 l.cost
 
 kind_below : (k : RowKind) → kind_number k < 4
 kind_below Plain = omega arith
@@ -118,26 +118,26 @@ reads_header m w a b t letter modes moments zeros trust plain =
     rw (one, two, modes, moments, trust, three)
 
 -- a section head
-pub head_word_fits : (code count : ℕ) → code < 16 → count < 4096 → head_word code count < 2 ^ 16
+pub head_word_fits : (code count : ℕ) → code < 16 → Count count → head_word code count < 2 ^ 16
 head_word_fits code count h k = omega arith
 
-pub head_word_code : (code count : ℕ) → code < 16 → count < 4096 → field (head_word code count) 12 4 ≡ code
+pub head_word_code : (code count : ℕ) → code < 16 → Count count → field (head_word code count) 12 4 ≡ code
 head_word_code code count h k = omega arith
 
-pub head_word_count : (code count : ℕ) → code < 16 → count < 4096 → field (head_word code count) 0 12 ≡ count
+pub head_word_count : (code count : ℕ) → code < 16 → Count count → field (head_word code count) 0 12 ≡ count
 head_word_count code count h k = omega arith
 
 pub head_read_word : (w : ℕ) → w < 2 ^ 16 → head_word (field w 12 4) (field w 0 12) ≡ w
 head_read_word w h = omega arith
 
-pub count_below : (w : ℕ) → field w 0 12 < 4096
+pub count_below : (w : ℕ) → Count (field w 0 12)
 count_below w = omega arith
 
 -- a header
-pub header_word_fits : (l a b t : ℕ) → l < 256 → a < 128 → b < 128 → t < 256 → header_word l a b t < 2 ^ 32
+pub header_word_fits : (l a b t : ℕ) → Byte l → InBits 7 a → InBits 7 b → Byte t → header_word l a b t < 2 ^ 32
 header_word_fits l a b t hl ha hb ht = omega arith
 
-pub header_word_read : (m : Meaning) (l a b t : ℕ) → l < 256 → a < 128 → b < 128 → t < 256 → l ≡ m.letter → (m.scaled ≡ false → t ≡ 16) → header_read m (header_word l a b t) ≡ Ok (record { modes = a; moments = b; trust = t })
+pub header_word_read : (m : Meaning) (l a b t : ℕ) → Byte l → InBits 7 a → InBits 7 b → Byte t → l ≡ m.letter → (m.scaled ≡ false → t ≡ 16) → header_read m (header_word l a b t) ≡ Ok (record { modes = a; moments = b; trust = t })
 header_word_read m l a b t hl ha hb ht own plain =
     let w = header_word l a b t in
     let letter : field w 24 8 ≡ m.letter = omega (arith, own) in
@@ -149,10 +149,10 @@ header_word_read m l a b t hl ha hb ht own plain =
 
 -- what a header that is read was
 pub record HeaderWas (m : Meaning) (w : ℕ) (h : Header) : Type 0 where
-  pub letter_fits : m.letter < 256
-  pub modes_fit : h.modes < 128
-  pub moments_fit : h.moments < 128
-  pub trust_fits : h.trust < 256
+  pub letter_fits : Byte m.letter
+  pub modes_fit : InBits 7 h.modes
+  pub moments_fit : InBits 7 h.moments
+  pub trust_fits : Byte h.trust
   pub plain_trust : m.scaled ≡ false → h.trust ≡ 16
   pub is : header_word m.letter h.modes h.moments h.trust ≡ w
 

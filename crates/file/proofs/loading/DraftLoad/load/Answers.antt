@@ -14,6 +14,7 @@ unfolding row_added line_added records_added at_end from_note from_lines from_ro
 worked = record {
   header_written = refl;
   header_taken = refl;
+  row_held = refl;
   row_written = refl;
   row_taken = refl;
   halves_up = refl;
