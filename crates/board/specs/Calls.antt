@@ -11,8 +11,8 @@ use Rattle.board.specs.Rows.{formed}
 use Rattle.board.specs.Content.{Content, new, Sound}
 
 -- Why size is declined: a row or a line is held (1); M times T is 0 or above 64 (2).
-abbrev pub size_fault : Content → ℕ → ℕ → Option Refusal
-size_fault c modes moments =
+abbrev pub size_refusal : Content → ℕ → ℕ → Option Refusal
+size_refusal c modes moments =
     first_refusal
     (((not (length c.rows == 0) || not (length c.lines == 0)), NotEmpty)
     ∷ ((modes * moments == 0 || nat_lt most_places (modes * moments)), SizeOut)
@@ -24,11 +24,11 @@ with_size c modes moments = record { modes = modes; moments = moments; rows = c.
 
 -- the content after the call: as it was where the call is refused
 abbrev pub size_after : Content → ℕ → ℕ → Content
-size_after c modes moments = unless (size_fault c modes moments) (with_size c modes moments) c
+size_after c modes moments = unless (size_refusal c modes moments) (with_size c modes moments) c
 
 -- Why a row is declined: 128 are held (3); a mode is not below M (4); the row is not formed (5); its cost is none (10).
-abbrev pub row_fault : Meaning → Content → Row → Option Refusal
-row_fault m c r =
+abbrev pub row_refusal : Meaning → Content → Row → Option Refusal
+row_refusal m c r =
     first_refusal
     ((nat_le most_rows (length c.rows), RowsFull)
     ∷ ((nat_le c.modes r.from || nat_le c.modes r.to), ModeOut)
@@ -42,19 +42,19 @@ with_row c r = record { modes = c.modes; moments = c.moments; rows = c.rows ++ (
 
 -- the content after the call
 abbrev pub row_after : Meaning → Content → Row → Content
-row_after m c r = unless (row_fault m c r) (with_row c r) c
+row_after m c r = unless (row_refusal m c r) (with_row c r) c
 
 -- A line's own faults: a moment is not below T (7); its event is 0 (8); its cost is none (10).
-abbrev pub line_faults : Meaning → ℕ → Line → List (Bool × Refusal)
-line_faults m moments l =
+abbrev pub line_refusals : Meaning → ℕ → Line → List (Bool × Refusal)
+line_refusals m moments l =
     ((nat_le moments l.from || nat_le moments l.to), MomentOut)
     ∷ ((l.event == 0), NoEvent)
     ∷ (not (m.is_cost l.cost), NotACost)
     ∷ []
 
 -- Why a line is declined: 128 are held (6), or the first of its own faults.
-abbrev pub line_fault : Meaning → Content → Line → Option Refusal
-line_fault m c l = first_refusal ((nat_le most_lines (length c.lines), LinesFull) ∷ line_faults m c.moments l)
+abbrev pub line_refusal : Meaning → Content → Line → Option Refusal
+line_refusal m c l = first_refusal ((nat_le most_lines (length c.lines), LinesFull) ∷ line_refusals m c.moments l)
 
 -- the content with this line last
 abbrev pub with_line : Content → Line → Content
@@ -62,11 +62,11 @@ with_line c l = record { modes = c.modes; moments = c.moments; rows = c.rows; li
 
 -- the content after the call
 abbrev pub line_after : Meaning → Content → Line → Content
-line_after m c l = unless (line_fault m c l) (with_line c l) c
+line_after m c l = unless (line_refusal m c l) (with_line c l) c
 
 -- Why repricing row or line i is declined: there is none (9); the cost is none (10).
-abbrev pub reprice_fault : {A : Type 0} → Meaning → List A → ℕ → ℕ → Option Refusal
-reprice_fault m xs i cost = first_refusal ((nat_le (length xs) i, NoSuch) ∷ (not (m.is_cost cost), NotACost) ∷ [])
+abbrev pub reprice_refusal : {A : Type 0} → Meaning → List A → ℕ → ℕ → Option Refusal
+reprice_refusal m xs i cost = first_refusal ((nat_le (length xs) i, NoSuch) ∷ (not (m.is_cost cost), NotACost) ∷ [])
 
 -- the element at i changed by f, and every other as it was
 abbrev pub changed : {A : Type 0} → (A → A) → List A → ℕ → List A
@@ -92,11 +92,11 @@ with_line_cost c i cost = record { modes = c.modes; moments = c.moments; rows = 
 
 -- the content after row i is repriced
 abbrev pub reprice_row_after : Meaning → Content → ℕ → ℕ → Content
-reprice_row_after m c i cost = unless (reprice_fault m c.rows i cost) (with_row_cost c i cost) c
+reprice_row_after m c i cost = unless (reprice_refusal m c.rows i cost) (with_row_cost c i cost) c
 
 -- the content after line i is repriced
 abbrev pub reprice_line_after : Meaning → Content → ℕ → ℕ → Content
-reprice_line_after m c i cost = unless (reprice_fault m c.lines i cost) (with_line_cost c i cost) c
+reprice_line_after m c i cost = unless (reprice_refusal m c.lines i cost) (with_line_cost c i cost) c
 
 -- Clear: drops all lines.
 abbrev pub without_lines : Content → Content

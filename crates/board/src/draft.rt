@@ -2,7 +2,7 @@
 ghost use Rattle.std.specs.Prelude.{◌≡◌, length};
 ghost use Rattle.board.specs.Refusals.{answer};
 ghost use Rattle.board.specs.Content.{new, Sound};
-ghost use Rattle.board.specs.Calls.{size_fault, size_after, row_fault, row_after, line_fault, line_after, reprice_fault, reprice_row_after, reprice_line_after, without_lines};
+ghost use Rattle.board.specs.Calls.{size_refusal, size_after, row_refusal, row_after, line_refusal, line_after, reprice_refusal, reprice_row_after, reprice_line_after, without_lines};
 ghost use Rattle.board.specs.Held.{draft_content};
 ghost use Rattle.board.specs.Boards.{settled_content, settled_records};
 ghost use Rattle.board.specs.Settling.{SettledLog};
@@ -29,7 +29,7 @@ impl<K: Kind> Draft<K> {
     pub fn new() -> Draft<K>
         ensures content { draft_content result ≡ new }
         ensures sound { Sound K.meaning (draft_content result) }
-        ensures promises { CallsKeepEaseAndSettle }
+        ensures calls_and_settling { CallsKeepEaseAndSettle }
     {
         Draft {
             tables: Tables::new(),
@@ -38,7 +38,7 @@ impl<K: Kind> Draft<K> {
 
     // Sets the size, M modes and T moments.
     pub fn size(&mut self, modes: u32, moments: u32) -> Result<(), Refusal>
-        ensures answer { result ≡ answer (size_fault (draft_content self.old) modes moments) tt }
+        ensures answer { result ≡ answer (size_refusal (draft_content self.old) modes moments) tt }
         ensures after { draft_content self.new ≡ size_after (draft_content self.old) modes moments }
     {
         let tables = &mut self.tables;
@@ -55,7 +55,7 @@ impl<K: Kind> Draft<K> {
 
     // Puts the row last, and answers its number.
     pub fn add_row(&mut self, row: Row) -> Result<usize, Refusal>
-        ensures answer { result ≡ answer (row_fault K.meaning (draft_content self.old) row) (length (draft_content self.old).rows) }
+        ensures answer { result ≡ answer (row_refusal K.meaning (draft_content self.old) row) (length (draft_content self.old).rows) }
         ensures after { draft_content self.new ≡ row_after K.meaning (draft_content self.old) row }
     {
         let tables = &mut self.tables;
@@ -79,7 +79,7 @@ impl<K: Kind> Draft<K> {
     // Puts the line last, and answers its number. (Not one function with `add_row`: each asks for other things, and refuses
     // otherwise.)
     pub fn add_line(&mut self, line: Line) -> Result<usize, Refusal>
-        ensures answer { result ≡ answer (line_fault K.meaning (draft_content self.old) line) (length (draft_content self.old).lines) }
+        ensures answer { result ≡ answer (line_refusal K.meaning (draft_content self.old) line) (length (draft_content self.old).lines) }
         ensures after { draft_content self.new ≡ line_after K.meaning (draft_content self.old) line }
     {
         let tables = &mut self.tables;
@@ -102,7 +102,7 @@ impl<K: Kind> Draft<K> {
 
     // Sets the cost of one row, and of no other.
     pub fn reprice_row(&mut self, n: usize, cost: u32) -> Result<(), Refusal>
-        ensures answer { result ≡ answer (reprice_fault K.meaning (draft_content self.old).rows n cost) tt }
+        ensures answer { result ≡ answer (reprice_refusal K.meaning (draft_content self.old).rows n cost) tt }
         ensures after { draft_content self.new ≡ reprice_row_after K.meaning (draft_content self.old) n cost }
     {
         may_reprice::<K, _>(&self.tables.rows, n, cost)?;
@@ -112,7 +112,7 @@ impl<K: Kind> Draft<K> {
 
     // Sets the cost of one line, and of no other.
     pub fn reprice_line(&mut self, n: usize, cost: u32) -> Result<(), Refusal>
-        ensures answer { result ≡ answer (reprice_fault K.meaning (draft_content self.old).lines n cost) tt }
+        ensures answer { result ≡ answer (reprice_refusal K.meaning (draft_content self.old).lines n cost) tt }
         ensures after { draft_content self.new ≡ reprice_line_after K.meaning (draft_content self.old) n cost }
     {
         may_reprice::<K, _>(&self.tables.lines, n, cost)?;
@@ -135,7 +135,7 @@ impl<K: Kind> Draft<K> {
         ensures content { settled_content result ≡ draft_content self }
         ensures records { SettledLog K.meaning (draft_content self) (settled_records result) }
         ensures computed { settled_records result ≡ settled_log K.meaning (draft_content self) }
-        ensures promises { CallsKeepEaseAndSettle }
+        ensures calls_and_settling { CallsKeepEaseAndSettle }
         ensures example { SettlingExamples }
         ensures least { RecordsAreLeast K.meaning (draft_content self) (settled_records result) }
         ensures cheapest { RecordedIsCheapest K.meaning (draft_content self) (settled_records result) }
@@ -148,7 +148,7 @@ impl<K: Kind> Draft<K> {
 
 // Whether item n can be put at this cost: refused where there is no such item, or no such cost.
 fn may_reprice<K: Kind, T>(items: &[T], n: usize, cost: u32) -> Result<(), Refusal>
-    ensures { result ≡ answer (reprice_fault K.meaning items.now n cost) tt }
+    ensures { result ≡ answer (reprice_refusal K.meaning items.now n cost) tt }
 {
     if n >= items.len() {
         return Err(Refusal::NoSuch);

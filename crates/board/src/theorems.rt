@@ -6,6 +6,6 @@ ghost use Rattle.board.specs.Promises.{CallsKeepEaseAndSettle};
 // crate that stands on this one names it by a call, and needs no board for that.
 #[tactic(auto, using(crate::proofs::Promised::board_promises))]
 pub fn board_theorems()
-    ensures promises { CallsKeepEaseAndSettle }
+    ensures calls_and_settling { CallsKeepEaseAndSettle }
     ensures packing { PackingIsExact }
 {}

@@ -5,7 +5,7 @@ use Rattle.costs.specs.Meaning.{Meaning, Lawful}
 use Rattle.board.specs.declared.refusal.Refusal.{Refusal}
 use Rattle.board.specs.declared.refusal.Refusal.TheVariants.{NoReading, TooLong}
 use Rattle.board.specs.Content.{Content, new, Sound}
-use Rattle.board.specs.Calls.{with_row, with_line, with_row_cost, with_line_cost, size_fault, row_fault, line_fault, reprice_fault}
+use Rattle.board.specs.Calls.{with_row, with_line, with_row_cost, with_line_cost, size_refusal, row_refusal, line_refusal, reprice_refusal}
 use Rattle.board.specs.Refusals.{number, unless}
 use Rattle.board.specs.Refusals.{answer as refused_or}
 use Rattle.board.specs.Ease.{Eased, CallsEase}
@@ -98,11 +98,11 @@ module _ {m : Meaning} (laws : Lawful m) (promises : CallsKeepEaseAndSettle) whe
   unless_same (Some r) x done c n e = refl
 
   declined_same : (c : Content) (x : Call) (n : ℕ) → is_load x ≡ false → refused_with (draft_answer m c x) ≡ Some n → content (on_draft m c x) ≡ c
-  declined_same c (call.Size a b) n other e = unless_same (size_fault c a b) tt _ c n e
-  declined_same c (call.AddRow r) n other e = unless_same (row_fault m c r) (length c.rows) _ c n e
-  declined_same c (call.AddLine l) n other e = unless_same (line_fault m c l) (length c.lines) _ c n e
-  declined_same c (call.RepriceRow i k) n other e = unless_same (reprice_fault m c.rows i k) tt _ c n e
-  declined_same c (call.RepriceLine i k) n other e = unless_same (reprice_fault m c.lines i k) tt _ c n e
+  declined_same c (call.Size a b) n other e = unless_same (size_refusal c a b) tt _ c n e
+  declined_same c (call.AddRow r) n other e = unless_same (row_refusal m c r) (length c.rows) _ c n e
+  declined_same c (call.AddLine l) n other e = unless_same (line_refusal m c l) (length c.lines) _ c n e
+  declined_same c (call.RepriceRow i k) n other e = unless_same (reprice_refusal m c.rows i k) tt _ c n e
+  declined_same c (call.RepriceLine i k) n other e = unless_same (reprice_refusal m c.lines i k) tt _ c n e
   declined_same c x n other e = absurd cc
 
   asked_same : (c : Content) {x : Call} → Question x → content (stepped m (settled c) x) ≡ c
@@ -110,10 +110,10 @@ module _ {m : Meaning} (laws : Lawful m) (promises : CallsKeepEaseAndSettle) whe
   asked_same c q = refl
 
   step_eased : {s : State} {x : Call} → Sound m (content s) → Eases m s x → Eased m (content s) (content (stepped m s x))
-  step_eased h (adds_row {c} {r}) = unless_eased c (with_row c r) (row_fault m c r) h (ease.row_added c r h)
-  step_eased h (adds_line {c} {l}) = unless_eased c (with_line c l) (line_fault m c l) h (ease.line_added c l h)
-  step_eased h (reprices_row {c} {i} {k} r e w) = unless_eased c (with_row_cost c i k) (reprice_fault m c.rows i k) h (ease.row_repriced c i k r h e w)
-  step_eased h (reprices_line {c} {i} {k} l e w) = unless_eased c (with_line_cost c i k) (reprice_fault m c.lines i k) h (ease.line_repriced c i k l h e w)
+  step_eased h (adds_row {c} {r}) = unless_eased c (with_row c r) (row_refusal m c r) h (ease.row_added c r h)
+  step_eased h (adds_line {c} {l}) = unless_eased c (with_line c l) (line_refusal m c l) h (ease.line_added c l h)
+  step_eased h (reprices_row {c} {i} {k} r e w) = unless_eased c (with_row_cost c i k) (reprice_refusal m c.rows i k) h (ease.row_repriced c i k r h e w)
+  step_eased h (reprices_line {c} {i} {k} l e w) = unless_eased c (with_line_cost c i k) (reprice_refusal m c.lines i k) h (ease.line_repriced c i k l h e w)
   step_eased h (settles {c}) = ease.same c h
   step_eased h (reopens {c}) = ease.same c h
   step_eased h (asks {c} q) = subst (Eased m c) (sym (asked_same c q)) (ease.same c h)

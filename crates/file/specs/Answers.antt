@@ -6,7 +6,7 @@ use Rattle.costs.specs.Meaning.{Meaning}
 use Rattle.board.specs.declared.check.Fault.{Fault}
 use Rattle.board.specs.Refusals.{number, answer}
 use Rattle.board.specs.Content.{Content}
-use Rattle.board.specs.Calls.{size_fault, row_fault, line_fault, reprice_fault}
+use Rattle.board.specs.Calls.{size_refusal, row_refusal, line_refusal, reprice_refusal}
 use Rattle.board.specs.Checks.{check_answer}
 use Rattle.board.specs.Settling.{In, Record}
 use Rattle.board.specs.Questions.{cost_answer, path_answer, path_after, between_answer}
@@ -40,11 +40,11 @@ NoteStands m x a = Unit {0}
 
 -- a draft's answers, but to settle; it does not take the questions, nor reopen
 abbrev pub draft_answer : Meaning → Content → Call → Answer
-draft_answer m c (Size modes moments) = gives.Sized (answer (size_fault c modes moments) tt)
-draft_answer m c (AddRow r) = gives.Added (answer (row_fault m c r) (length c.rows))
-draft_answer m c (AddLine l) = gives.Added (answer (line_fault m c l) (length c.lines))
-draft_answer m c (RepriceRow i k) = gives.Repriced (answer (reprice_fault m c.rows i k) tt)
-draft_answer m c (RepriceLine i k) = gives.Repriced (answer (reprice_fault m c.lines i k) tt)
+draft_answer m c (Size modes moments) = gives.Sized (answer (size_refusal c modes moments) tt)
+draft_answer m c (AddRow r) = gives.Added (answer (row_refusal m c r) (length c.rows))
+draft_answer m c (AddLine l) = gives.Added (answer (line_refusal m c l) (length c.lines))
+draft_answer m c (RepriceRow i k) = gives.Repriced (answer (reprice_refusal m c.rows i k) tt)
+draft_answer m c (RepriceLine i k) = gives.Repriced (answer (reprice_refusal m c.lines i k) tt)
 draft_answer m c ClearLines = gives.Cleared (length c.lines)
 draft_answer m c (Load bytes) = gives.Loaded (spanned (load_answer m bytes.now))
 draft_answer m c x = gives.NotTaken

@@ -7,7 +7,7 @@ use Rattle.board.specs.declared.refusal.Refusal.{Refusal}
 use Rattle.board.specs.declared.row.Row.{Row}
 use Rattle.board.specs.declared.row.Line.{Line}
 use Rattle.board.specs.Content.{Content, new}
-use Rattle.board.specs.Calls.{size_fault, row_fault, line_fault}
+use Rattle.board.specs.Calls.{size_refusal, row_refusal, line_refusal}
 use Rattle.file.specs.declared.refusal.FileRefusal.{FileRefusal}
 use Rattle.file.specs.declared.refusal.FileRefusal.TheVariants.{CutShort, WrongLetter, NotZero, WrongTrust, WrongSection, Board}
 use Rattle.file.specs.declared.refusal.LoadFault.{LoadFault}
@@ -65,7 +65,7 @@ header_fault m bs =
     ∷ (not (field (word4 bs) 8 2 == 0), NotZero)
     ∷ (not (m.scaled || field (word4 bs) 0 8 == 16), WrongTrust)
     ∷ [])
-    (size_fault new (header_fields (word4 bs)).modes (header_fields (word4 bs)).moments)
+    (size_refusal new (header_fields (word4 bs)).modes (header_fields (word4 bs)).moments)
 
 -- which codes a section may have behind these sections: each comes at most once, rows before lines before the note
 abbrev pub may_follow : Option (List Row) → Option (List Line) → Option (List ℕ) → ℕ → Bool
@@ -83,12 +83,12 @@ head_fault d bs =
 -- A row: cut short (20); a zero bit is 1 (22); then the board's, for adding it (3, 4, 5, 10).
 abbrev pub row_part_fault : Meaning → Content → List ℕ → Option FileRefusal
 row_part_fault m c bs =
-    first_broken ((nat_lt (length bs) 8, CutShort) ∷ (not (field (word8 bs) 32 2 == 0), NotZero) ∷ []) (row_fault m c (row_fields (word8 bs)))
+    first_broken ((nat_lt (length bs) 8, CutShort) ∷ (not (field (word8 bs) 32 2 == 0), NotZero) ∷ []) (row_refusal m c (row_fields (word8 bs)))
 
 -- A line: cut short (20); a zero bit is 1 (22); then the board's, for adding it at its cost as trust has it (6, 7, 8, 10).
 abbrev pub line_part_fault : Meaning → ℕ → Content → List ℕ → Option FileRefusal
 line_part_fault m trust c bs =
-    first_broken ((nat_lt (length bs) 8, CutShort) ∷ (not (field (word8 bs) 32 12 == 0), NotZero) ∷ []) (line_fault m c (trusted_line m trust (line_fields (word8 bs))))
+    first_broken ((nat_lt (length bs) 8, CutShort) ∷ (not (field (word8 bs) 32 12 == 0), NotZero) ∷ []) (line_refusal m c (trusted_line m trust (line_fields (word8 bs))))
 
 -- A note's bytes: cut short (20).
 abbrev pub note_fault : ℕ → List ℕ → Option FileRefusal

@@ -1,11 +1,9 @@
 -- Bit fields, most significant first, as they are read from a file's bytes.
 use Rattle.std.specs.Prelude.{ℕ, ◌+◌, ◌*◌, ◌/◌, ◌%◌, ◌^◌, cond, ◌||◌, List, Ok, Err, Result, ◌==◌, slice_index}
 use Rattle.costs.specs.Meaning.{Meaning}
-use Rattle.board.specs.declared.row.RowKind.{RowKind}
-use Rattle.board.specs.declared.row.RowKind.TheVariants.{Plain, Open, Close, End}
 use Rattle.board.specs.declared.row.Row.{Row}
 use Rattle.board.specs.declared.row.Line.{Line}
-use Rattle.board.specs.Rows.{kind_number}
+use Rattle.board.specs.Rows.{kind_of_bits}
 use Rattle.file.specs.declared.fields.Header.{Header}
 use Rattle.file.specs.declared.refusal.FileRefusal.{FileRefusal}
 use Rattle.file.specs.declared.refusal.FileRefusal.TheVariants.{WrongLetter, NotZero, WrongTrust}
@@ -45,14 +43,10 @@ head_code bs = field (word2 bs) 12 4
 abbrev pub head_count : List ℕ → ℕ
 head_count bs = field (word2 bs) 0 12
 
--- the kind of row that a number of two bits stands for
-abbrev pub kind_at : ℕ → RowKind
-kind_at n = cond (n == kind_number Plain) Plain (cond (n == kind_number Open) Open (cond (n == kind_number Close) Close End))
-
 -- A row: its kind, from, to, label, action, two zero bits, cost.
 abbrev pub row_fields : ℕ → Row
 row_fields w =
-    record { kind = kind_at (field w 62 2); from = field w 56 6; to = field w 50 6; label = field w 42 8; action = field w 34 8; cost = field w 0 32 }
+    record { kind = kind_of_bits (field w 62 2); from = field w 56 6; to = field w 50 6; label = field w 42 8; action = field w 34 8; cost = field w 0 32 }
 
 -- the row, or 22 where a zero bit is 1
 abbrev pub row_read : ℕ → Result Row FileRefusal

@@ -3,7 +3,7 @@ use Rattle.std.specs.Prelude.{ℕ, Bool, cond, ◌&&◌, List, [], length, drop,
 use Rattle.std.specs.Result.{result_map_both}
 use Rattle.costs.specs.Meaning.{Meaning}
 use Rattle.board.specs.Content.{Content, new}
-use Rattle.board.specs.Calls.{size_fault, size_after}
+use Rattle.board.specs.Calls.{size_refusal, size_after}
 use Rattle.file.specs.declared.fields.Header.{Header}
 use Rattle.file.specs.declared.refusal.FileRefusal.{FileRefusal}
 use Rattle.file.specs.declared.refusal.FileRefusal.TheVariants.{CutShort, WrongSection}
@@ -69,7 +69,7 @@ from_rows m trust = in_turn m trust rows_code (from_lines m trust)
 
 -- the board sized as the header says, or the board's refusal
 unfoldable pub sized : Header → Content → Result Content FileRefusal
-sized h c = called (size_fault c h.modes h.moments) (size_after c h.modes h.moments)
+sized h c = called (size_refusal c h.modes h.moments) (size_after c h.modes h.moments)
 
 -- without a note the file ends in an empty one
 abbrev pub no_note : List ℕ → PartRead

@@ -6,7 +6,7 @@ use Rattle.board.specs.declared.refusal.Refusal.{Refusal}
 use Rattle.board.specs.declared.row.Row.{Row}
 use Rattle.board.specs.declared.row.Line.{Line}
 use Rattle.board.specs.Content.{Content}
-use Rattle.board.specs.Calls.{row_fault, row_after, line_fault, line_after, line_at_cost}
+use Rattle.board.specs.Calls.{row_refusal, row_after, line_refusal, line_after, line_at_cost}
 use Rattle.file.specs.declared.refusal.FileRefusal.{FileRefusal}
 use Rattle.file.specs.declared.refusal.FileRefusal.TheVariants.{CutShort, Board}
 use Rattle.file.specs.declared.refusal.LoadFault.{LoadFault}
@@ -30,11 +30,11 @@ called (Some e) after = Err (Board e)
 
 -- the board with the row added, or the board's refusal
 unfoldable pub row_added : Meaning → Content → Row → Result Content FileRefusal
-row_added m c r = called (row_fault m c r) (row_after m c r)
+row_added m c r = called (row_refusal m c r) (row_after m c r)
 
 -- the board with the line added, or the board's refusal
 unfoldable pub line_added : Meaning → Content → Line → Result Content FileRefusal
-line_added m c l = called (line_fault m c l) (line_after m c l)
+line_added m c l = called (line_refusal m c l) (line_after m c l)
 
 -- the line with its cost as trust has it
 abbrev pub trusted_line : Meaning → ℕ → Line → Line

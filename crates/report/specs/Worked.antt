@@ -6,7 +6,7 @@ use Rattle.board.specs.declared.row.RowKind.TheVariants.{Open, Close, End}
 use Rattle.board.specs.declared.refusal.Refusal.TheVariants.{SizeOut, NotACost, NoReading, TooLong}
 use Rattle.board.specs.Refusals.{number}
 use Rattle.board.specs.Content.{Content, new}
-use Rattle.board.specs.Calls.{size_fault, row_fault, with_row_cost}
+use Rattle.board.specs.Calls.{size_refusal, row_refusal, with_row_cost}
 use Rattle.board.specs.Checks.{check_answer}
 use Rattle.board.specs.Examples.{row, flight, flight_moves, SettlingExamples}
 use Rattle.board.specs.Packing.{packed}
@@ -86,10 +86,10 @@ pub record WorkedExamples : Type 0 where
   pub other_bracket : settled_cost points (two_brackets 1) ≡ Err NoReading
   pub same_bracket : settled_cost points (two_brackets 0) ≡ Ok (9, 3)
   -- in rank, the number after the last cost is declined
-  pub rank_declined : row_fault rank new (row End 0 0 0 0 4293918720) ≡ Some NotACost
+  pub rank_declined : row_refusal rank new (row End 0 0 0 0 4293918720) ≡ Some NotACost
   -- 64 places at most
-  pub square : size_fault new 8 8 ≡ None
-  pub oblong : size_fault new 5 13 ≡ Some SizeOut
+  pub square : size_refusal new 8 8 ≡ None
+  pub oblong : size_refusal new 5 13 ≡ Some SizeOut
   -- the numbers of these refusals
   pub size_number : number SizeOut ≡ 2
   pub cost_number : number NotACost ≡ 10

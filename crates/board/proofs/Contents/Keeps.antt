@@ -11,7 +11,7 @@ use Rattle.board.specs.declared.refusal.Refusal.{Refusal}
 use Rattle.board.specs.Refusals.{first_refusal, unless}
 use Rattle.board.specs.Rows.{formed}
 use Rattle.board.specs.Content.{Content, new, Sound, SoundRow, SoundLine}
-use Rattle.board.specs.Calls.{size_fault, with_size, size_after, row_fault, with_row, row_after, line_faults, line_fault, with_line, line_after, reprice_fault, row_at_cost, line_at_cost, with_row_cost, with_line_cost, reprice_row_after, reprice_line_after, without_lines, CallsKeepSound}
+use Rattle.board.specs.Calls.{size_refusal, with_size, size_after, row_refusal, with_row, row_after, line_refusals, line_refusal, with_line, line_after, reprice_refusal, row_at_cost, line_at_cost, with_row_cost, with_line_cost, reprice_row_after, reprice_line_after, without_lines, CallsKeepSound}
 use Rattle.board.proofs.Basics.Elements.{nth_push, nth_changed, nth_empty, length_changed, factors}
 
 -- where none of the reasons applies, the first does not, nor do the others
@@ -50,7 +50,7 @@ module _ (m : Meaning) where
   }
 
   -- what a size that is not refused says
-  pub size_fits : (c : Content) (a b : ℕ) → size_fault c a b ≡ None → (length c.rows ≡ 0) × (length c.lines ≡ 0) × (0 < a * b) × (a * b ≤ 64)
+  pub size_fits : (c : Content) (a b : ℕ) → size_refusal c a b ≡ None → (length c.rows ≡ 0) × (length c.lines ≡ 0) × (0 < a * b) × (a * b ≤ 64)
   size_fits c a b e =
       let z = none_first _ _ _ e in
       let y = none_first _ _ _ z.1 in
@@ -60,7 +60,7 @@ module _ (m : Meaning) where
       let few = ltb-false 64 (a * b) k.1 in
       (eqb-true _ _ (not-false _ h.0), eqb-true _ _ (not-false _ h.1), omega (arith, some), few)
 
-  size_sound : (c : Content) (a b : ℕ) → size_fault c a b ≡ None → Sound m (with_size c a b)
+  size_sound : (c : Content) (a b : ℕ) → size_refusal c a b ≡ None → Sound m (with_size c a b)
   size_sound c a b e =
       let h = size_fits c a b e in
       let f = factors a b h.2 h.3 in
@@ -75,10 +75,10 @@ module _ (m : Meaning) where
       }
 
   pub size_keeps : (c : Content) (a b : ℕ) → Sound m c → Sound m (size_after c a b)
-  size_keeps c a b h = unless_keeps (Sound m) (size_fault c a b) (with_size c a b) c (size_sound c a b) h
+  size_keeps c a b h = unless_keeps (Sound m) (size_refusal c a b) (with_size c a b) c (size_sound c a b) h
 
   -- a row or line that is not refused is sound, and there is room for it
-  row_sound : (c : Content) (r : Row) → row_fault m c r ≡ None → (length c.rows < 128) × SoundRow m c r
+  row_sound : (c : Content) (r : Row) → row_refusal m c r ≡ None → (length c.rows < 128) × SoundRow m c r
   row_sound c r e =
       let full = none_first _ _ _ e in
       let out = none_first _ _ _ full.1 in
@@ -94,7 +94,7 @@ module _ (m : Meaning) where
         },
       )
 
-  pub line_sound_on : (c : Content) (l : Line) → first_refusal (line_faults m c.moments l) ≡ None → SoundLine m c l
+  pub line_sound_on : (c : Content) (l : Line) → first_refusal (line_refusals m c.moments l) ≡ None → SoundLine m c l
   line_sound_on c l e =
       let out = none_first _ _ _ e in
       let no_event = none_first _ _ _ out.1 in
@@ -108,7 +108,7 @@ module _ (m : Meaning) where
         price = not-false _ dear.0;
       }
 
-  line_sound : (c : Content) (l : Line) → line_fault m c l ≡ None → (length c.lines < 128) × SoundLine m c l
+  line_sound : (c : Content) (l : Line) → line_refusal m c l ≡ None → (length c.lines < 128) × SoundLine m c l
   line_sound c l e =
       let full = none_first _ _ _ e in
       (leb-false _ _ full.0, line_sound_on c l full.1)
@@ -125,7 +125,7 @@ module _ (m : Meaning) where
   }
 
   row_keeps : (c : Content) (r : Row) → Sound m c → Sound m (row_after m c r)
-  row_keeps c r h = unless_keeps (Sound m) (row_fault m c r) (with_row c r) c (λ e. let s = row_sound c r e in with_row_sound c r h s.0 s.1) h
+  row_keeps c r h = unless_keeps (Sound m) (row_refusal m c r) (with_row c r) c (λ e. let s = row_sound c r e in with_row_sound c r h s.0 s.1) h
 
   pub with_line_sound : (c : Content) (l : Line) → Sound m c → length c.lines < 128 → SoundLine m c l → Sound m (with_line c l)
   with_line_sound c l h n k = record {
@@ -139,7 +139,7 @@ module _ (m : Meaning) where
   }
 
   line_keeps : (c : Content) (l : Line) → Sound m c → Sound m (line_after m c l)
-  line_keeps c l h = unless_keeps (Sound m) (line_fault m c l) (with_line c l) c (λ e. let s = line_sound c l e in with_line_sound c l h s.0 s.1) h
+  line_keeps c l h = unless_keeps (Sound m) (line_refusal m c l) (with_line c l) c (λ e. let s = line_sound c l e in with_line_sound c l h s.0 s.1) h
 
   row_priced : (c : Content) (r : Row) (k : ℕ) → SoundRow m c r → Cost m k → SoundRow m c (row_at_cost k r)
   row_priced c r k h p = record { from_in = h.from_in; to_in = h.to_in; well_formed = formed_at_cost r.kind r k ∙ h.well_formed; price = p }
@@ -148,7 +148,7 @@ module _ (m : Meaning) where
   line_priced c l k h p = record { from_in = h.from_in; to_in = h.to_in; some_event = h.some_event; price = p }
 
   -- a cost that is not refused
-  priced : {A : Type 0} (xs : List A) (i k : ℕ) → reprice_fault m xs i k ≡ None → Cost m k
+  priced : {A : Type 0} (xs : List A) (i k : ℕ) → reprice_refusal m xs i k ≡ None → Cost m k
   priced xs i k e = not-false _ (none_first _ _ _ (none_first _ _ _ e).1).0
 
   pub with_row_cost_sound : (c : Content) (j k : ℕ) → Sound m c → Cost m k → Sound m (with_row_cost c j k)
@@ -163,7 +163,7 @@ module _ (m : Meaning) where
   }
 
   reprice_row_keeps : (c : Content) (j k : ℕ) → Sound m c → Sound m (reprice_row_after m c j k)
-  reprice_row_keeps c j k h = unless_keeps (Sound m) (reprice_fault m c.rows j k) (with_row_cost c j k) c (λ e. with_row_cost_sound c j k h (priced c.rows j k e)) h
+  reprice_row_keeps c j k h = unless_keeps (Sound m) (reprice_refusal m c.rows j k) (with_row_cost c j k) c (λ e. with_row_cost_sound c j k h (priced c.rows j k e)) h
 
   pub with_line_cost_sound : (c : Content) (j k : ℕ) → Sound m c → Cost m k → Sound m (with_line_cost c j k)
   with_line_cost_sound c j k h p = record {
@@ -177,7 +177,7 @@ module _ (m : Meaning) where
   }
 
   reprice_line_keeps : (c : Content) (j k : ℕ) → Sound m c → Sound m (reprice_line_after m c j k)
-  reprice_line_keeps c j k h = unless_keeps (Sound m) (reprice_fault m c.lines j k) (with_line_cost c j k) c (λ e. with_line_cost_sound c j k h (priced c.lines j k e)) h
+  reprice_line_keeps c j k h = unless_keeps (Sound m) (reprice_refusal m c.lines j k) (with_line_cost c j k) c (λ e. with_line_cost_sound c j k h (priced c.lines j k e)) h
 
   pub clear_keeps : (c : Content) → Sound m c → Sound m (without_lines c)
   clear_keeps c h = record {

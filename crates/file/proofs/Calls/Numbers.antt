@@ -15,7 +15,7 @@ use Rattle.board.specs.declared.row.Row.{Row}
 use Rattle.board.specs.declared.row.Line.{Line}
 use Rattle.board.specs.Arrivals.{arrival_by}
 use Rattle.board.specs.Content.{Content, new}
-use Rattle.board.specs.Calls.{size_fault, size_after, row_fault, row_after, line_fault, line_after, reprice_fault}
+use Rattle.board.specs.Calls.{size_refusal, size_after, row_refusal, row_after, line_refusal, line_after, reprice_refusal}
 use Rattle.board.specs.Checks.{bracketed, Progress, before_moves, arrived, take_named, named_by_number, take_move, or_fault, checked_from, check_answer}
 use Rattle.board.specs.Computing.{Reading, record_between, recorded_reading}
 use Rattle.board.specs.Packing.{unpacked}
@@ -76,19 +76,19 @@ module _ (P : Refusal → Type 0) where
   answers None x h = tt
   answers (Some e) x h = h
 
-  size : (c : Content) (a b : ℕ) → P refusal.NotEmpty → P refusal.SizeOut → IfSome (size_fault c a b) P
+  size : (c : Content) (a b : ℕ) → P refusal.NotEmpty → P refusal.SizeOut → IfSome (size_refusal c a b) P
   size c a b h k = search (rules, one_more P)
 
-  size_new : (a b : ℕ) → P refusal.SizeOut → IfSome (size_fault new a b) P
+  size_new : (a b : ℕ) → P refusal.SizeOut → IfSome (size_refusal new a b) P
   size_new a b k = search (rules, one_more P)
 
-  row : (m : Meaning) (c : Content) (r : Row) → P refusal.RowsFull → P refusal.ModeOut → P refusal.BadRow → P refusal.NotACost → IfSome (row_fault m c r) P
+  row : (m : Meaning) (c : Content) (r : Row) → P refusal.RowsFull → P refusal.ModeOut → P refusal.BadRow → P refusal.NotACost → IfSome (row_refusal m c r) P
   row m c r h i j k = search (rules, one_more P)
 
-  line : (m : Meaning) (c : Content) (l : Line) → P refusal.LinesFull → P refusal.MomentOut → P refusal.NoEvent → P refusal.NotACost → IfSome (line_fault m c l) P
+  line : (m : Meaning) (c : Content) (l : Line) → P refusal.LinesFull → P refusal.MomentOut → P refusal.NoEvent → P refusal.NotACost → IfSome (line_refusal m c l) P
   line m c l h i j k = search (rules, one_more P)
 
-  reprice : {A : Type 0} (m : Meaning) (xs : List A) (i k : ℕ) → P refusal.NoSuch → P refusal.NotACost → IfSome (reprice_fault m xs i k) P
+  reprice : {A : Type 0} (m : Meaning) (xs : List A) (i k : ℕ) → P refusal.NoSuch → P refusal.NotACost → IfSome (reprice_refusal m xs i k) P
   reprice m xs i k h j = search (rules, one_more P)
 
 -- the questions
@@ -165,13 +165,13 @@ module _ (m : Meaning) (file : Bor (List ℕ)) where
 
   a_row : (c : Content) (w : ℕ) → IfErr (row_record m c w) Own
   unfolding row_added
-  a_row c w = on Own (row_read w) (row_added m c) (read_row w) (λ r. calls (row_fault m c r) (row_after m c r) (row OwnBoard m c r refl refl refl refl))
+  a_row c w = on Own (row_read w) (row_added m c) (read_row w) (λ r. calls (row_refusal m c r) (row_after m c r) (row OwnBoard m c r refl refl refl refl))
 
   a_line : (t : ℕ) (c : Content) (w : ℕ) → IfErr (line_record m t c w) Own
   unfolding line_added
   a_line t c w =
       on Own (line_read w) (λ l. line_added m c (trusted_line m t l)) (read_line w)
-      (λ l. calls (line_fault m c (trusted_line m t l)) (line_after m c (trusted_line m t l)) (line OwnBoard m c (trusted_line m t l) refl refl refl refl))
+      (λ l. calls (line_refusal m c (trusted_line m t l)) (line_after m c (trusted_line m t l)) (line OwnBoard m c (trusted_line m t l) refl refl refl refl))
 
   each : (add : Content → ℕ → Result Content FileRefusal) → ((c : Content) (w : ℕ) → IfErr (add c w) Own) → (n : ℕ) (bs : List ℕ) (place : ℕ) (c : Content) → IfErr (records_added add n bs place c) OwnAt
   unfolding records_added
@@ -209,7 +209,7 @@ module _ (m : Meaning) (file : Bor (List ℕ)) where
       (places (opened m bs new) 0
       (either Own (ltb (length bs) 4) _ _ refl
       (on Own (header_read m (word4 bs)) _ (header (word4 bs))
-      (λ h. on Own (sized h new) _ (calls (size_fault new h.modes h.moments) (size_after new h.modes h.moments) (size_new OwnBoard h.modes h.moments refl)) (λ d. tt)))))
+      (λ h. on Own (sized h new) _ (calls (size_refusal new h.modes h.moments) (size_after new h.modes h.moments) (size_new OwnBoard h.modes h.moments refl)) (λ d. tt)))))
       (λ o. sections o.trust (after_header bs) (loaded_as o.content (no_note bs)))
 
   noted : (r : Result Loaded LoadFault) → IfErr r OwnAt → IfErr (spanned (note_answer r)) OwnAt
@@ -226,11 +226,11 @@ called_with ks o x n h e = given number (answer o x) ks n (answers (Has ks) o x 
 
 -- every call; of those that are left out none answers a refusal
 on_draft : (m : Meaning) (c : Content) (log : List Record) (x : Call) (buffer : List ℕ) (n : ℕ) → refused_with (step_answer m (draft c) log x buffer) ≡ Some n → In n (can_give x)
-on_draft m c log (call.Size a b) buffer n e = let ks = can_give (call.Size a b) in called_with ks (size_fault c a b) tt n (size (Has ks) c a b refl refl) e
-on_draft m c log (call.AddRow r) buffer n e = let ks = can_give (call.AddRow r) in called_with ks (row_fault m c r) (length c.rows) n (row (Has ks) m c r refl refl refl refl) e
-on_draft m c log (call.AddLine l) buffer n e = let ks = can_give (call.AddLine l) in called_with ks (line_fault m c l) (length c.lines) n (line (Has ks) m c l refl refl refl refl) e
-on_draft m c log (call.RepriceRow i k) buffer n e = let ks = can_give (call.RepriceRow i k) in called_with ks (reprice_fault m c.rows i k) tt n (reprice (Has ks) m c.rows i k refl refl) e
-on_draft m c log (call.RepriceLine i k) buffer n e = let ks = can_give (call.RepriceLine i k) in called_with ks (reprice_fault m c.lines i k) tt n (reprice (Has ks) m c.lines i k refl refl) e
+on_draft m c log (call.Size a b) buffer n e = let ks = can_give (call.Size a b) in called_with ks (size_refusal c a b) tt n (size (Has ks) c a b refl refl) e
+on_draft m c log (call.AddRow r) buffer n e = let ks = can_give (call.AddRow r) in called_with ks (row_refusal m c r) (length c.rows) n (row (Has ks) m c r refl refl refl refl) e
+on_draft m c log (call.AddLine l) buffer n e = let ks = can_give (call.AddLine l) in called_with ks (line_refusal m c l) (length c.lines) n (line (Has ks) m c l refl refl refl refl) e
+on_draft m c log (call.RepriceRow i k) buffer n e = let ks = can_give (call.RepriceRow i k) in called_with ks (reprice_refusal m c.rows i k) tt n (reprice (Has ks) m c.rows i k refl refl) e
+on_draft m c log (call.RepriceLine i k) buffer n e = let ks = can_give (call.RepriceLine i k) in called_with ks (reprice_refusal m c.lines i k) tt n (reprice (Has ks) m c.lines i k refl refl) e
 on_draft m c log (call.Load file) buffer n e =
     given (λ (f : LoadFault). file_number f.refusal) (spanned (load_answer m file.now)) (can_give (call.Load file)) n (noted m file (loaded m file.now) (load m file file.now)) e
 on_draft m c log x buffer n e = absurd cc

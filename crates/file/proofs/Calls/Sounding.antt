@@ -4,7 +4,7 @@ use Rattle.std.specs.Result.{IfOk}
 use Rattle.costs.specs.Meaning.{Meaning}
 use Rattle.board.specs.declared.refusal.Refusal.{Refusal}
 use Rattle.board.specs.Content.{Content, new, Sound}
-use Rattle.board.specs.Calls.{CallsKeepSound, size_fault, size_after, row_fault, row_after, line_fault, line_after}
+use Rattle.board.specs.Calls.{CallsKeepSound, size_refusal, size_after, row_refusal, row_after, line_refusal, line_after}
 use Rattle.file.specs.declared.refusal.FileRefusal.{FileRefusal}
 use Rattle.file.specs.declared.refusal.LoadFault.{LoadFault}
 use Rattle.file.specs.declared.call.Call.{Call}
@@ -49,11 +49,11 @@ module _ (m : Meaning) (keep : CallsKeepSound m) where
 
   row_sound : Keeps (row_record m)
   unfolding row_added
-  row_sound c w h = go_on_all (Sound m) (λ _. Unit {0}) (row_read w) (row_added m c) (any _) (λ r _. called_all (Sound m) (row_fault m c r) (row_after m c r) (keep.row_added c r h))
+  row_sound c w h = go_on_all (Sound m) (λ _. Unit {0}) (row_read w) (row_added m c) (any _) (λ r _. called_all (Sound m) (row_refusal m c r) (row_after m c r) (keep.row_added c r h))
 
   line_sound : (t : ℕ) → Keeps (line_record m t)
   unfolding line_added
-  line_sound t c w h = go_on_all (Sound m) (λ _. Unit {0}) (line_read w) (λ l. line_added m c (trusted_line m t l)) (any _) (λ l _. called_all (Sound m) (line_fault m c (trusted_line m t l)) (line_after m c (trusted_line m t l)) (keep.line_added c (trusted_line m t l) h))
+  line_sound t c w h = go_on_all (Sound m) (λ _. Unit {0}) (line_read w) (λ l. line_added m c (trusted_line m t l)) (any _) (λ l _. called_all (Sound m) (line_refusal m c (trusted_line m t l)) (line_after m c (trusted_line m t l)) (keep.line_added c (trusted_line m t l) h))
 
   records_sound : (add : Content → ℕ → Result Content FileRefusal) → Keeps add → (n : ℕ) (bs : List ℕ) (place : ℕ) (c : Content) → Sound m c → IfOk (records_added add n bs place c) (Sound m)
   unfolding records_added
@@ -91,7 +91,7 @@ module _ (m : Meaning) (keep : CallsKeepSound m) where
       (at_place_all (λ o. Sound m o.content) (opened m bs c) 0
       (cond_all (λ o. Sound m o.content) (ltb (length bs) 4) _ _ tt
       (go_on_all (λ o. Sound m o.content) (λ _. Unit {0}) (header_read m (word4 bs)) _ (any _)
-      (λ d _. go_on_all (λ o. Sound m o.content) (Sound m) (sized d c) _ (called_all (Sound m) (size_fault c d.modes d.moments) (size_after c d.modes d.moments) (keep.sized c d.modes d.moments h)) (λ e k. k)))))
+      (λ d _. go_on_all (λ o. Sound m o.content) (Sound m) (sized d c) _ (called_all (Sound m) (size_refusal c d.modes d.moments) (size_after c d.modes d.moments) (keep.sized c d.modes d.moments h)) (λ e k. k)))))
       (λ o k. rows_sound o.trust (after_header bs) (loaded_as o.content (no_note bs)) k)
 
   left_sound : (r : Result Loaded LoadFault) → IfOk r Fine → Sound m (content_left r)

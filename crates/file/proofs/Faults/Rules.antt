@@ -4,7 +4,7 @@ use Rattle.std.proofs.lemmas.Bool.{ltb-false}
 use Rattle.costs.specs.Meaning.{Meaning}
 use Rattle.board.specs.declared.refusal.Refusal.{Refusal}
 use Rattle.board.specs.Content.{Content, new}
-use Rattle.board.specs.Calls.{size_fault, size_after, row_fault, row_after, line_fault, line_after}
+use Rattle.board.specs.Calls.{size_refusal, size_after, row_refusal, row_after, line_refusal, line_after}
 use Rattle.file.specs.declared.fields.Header.{Header}
 use Rattle.file.specs.declared.refusal.FileRefusal.{FileRefusal}
 use Rattle.file.specs.declared.refusal.FileRefusal.TheVariants.{CutShort, WrongLetter, NotZero, WrongTrust, WrongSection}
@@ -44,14 +44,14 @@ pub row_rules : (m : Meaning) (c : Content) (bs : List ℕ) → record_next (row
 unfolding row_added
 row_rules m c bs =
     let r = row_fields (word8 bs) in
-    record_rule (ltb (length bs) 8) (eqb (field (word8 bs) 32 2) 0) r (row_added m c) (row_fault m c r) (row_after m c r) refl
+    record_rule (ltb (length bs) 8) (eqb (field (word8 bs) 32 2) 0) r (row_added m c) (row_refusal m c r) (row_after m c r) refl
 
 pub line_rules : (m : Meaning) (trust : ℕ) (c : Content) (bs : List ℕ) → record_next (line_record m trust) bs c ≡ refused (line_part_fault m trust c bs) (line_after m c (trusted_line m trust (line_fields (word8 bs))))
 unfolding line_added
 line_rules m trust c bs =
     let l = line_fields (word8 bs) in
     let t = trusted_line m trust l in
-    record_rule (ltb (length bs) 8) (eqb (field (word8 bs) 32 12) 0) l (λ k. line_added m c (trusted_line m trust k)) (line_fault m c t) (line_after m c t) refl
+    record_rule (ltb (length bs) 8) (eqb (field (word8 bs) 32 12) 0) l (λ k. line_added m c (trusted_line m trust k)) (line_refusal m c t) (line_after m c t) refl
 
 -- and so it is refused where a rule is broken
 pub row_refused : (m : Meaning) (c : Content) (bs : List ℕ) (e : FileRefusal) → row_part_fault m c bs ≡ Some e → record_next (row_record m) bs c ≡ Err e
@@ -79,8 +79,8 @@ header_rules m bs =
     let h = header_fields w in
     header_rule (ltb (length bs) 4) (eqb (field w 24 8) m.letter) (eqb (field w 8 2) 0) (m.scaled || eqb (field w 0 8) 16) h
     (λ g. go_on (sized g new) (λ d. Ok (record { content = d; trust = g.trust })))
-    (size_fault new h.modes h.moments) (opened_new h)
-    (called_then (size_fault new h.modes h.moments) (size_after new h.modes h.moments) (λ d. Ok (record { content = d; trust = h.trust })) (opened_new h) refl)
+    (size_refusal new h.modes h.moments) (opened_new h)
+    (called_then (size_refusal new h.modes h.moments) (size_after new h.modes h.moments) (λ d. Ok (record { content = d; trust = h.trust })) (opened_new h) refl)
 
 -- a section head where none may come
 abbrev head_rule : Bool → Bool → Bool → Option FileRefusal

@@ -5,7 +5,7 @@ use Rattle.std.proofs.lemmas.Bool.{le-ltb, cases_lt}
 use Rattle.std.proofs.lemmas.Bool.Decides.{nat_tests}
 use Rattle.costs.specs.Meaning.{Meaning}
 use Rattle.board.specs.Content.{Content, new}
-use Rattle.board.specs.Calls.{row_fault, row_after, with_row, line_fault, line_after, with_line}
+use Rattle.board.specs.Calls.{row_refusal, row_after, with_row, line_refusal, line_after, with_line}
 use Rattle.file.specs.declared.refusal.FileRefusal.{FileRefusal}
 use Rattle.file.specs.declared.refusal.FileRefusal.TheVariants.{WrongSection}
 use Rattle.file.specs.declared.refusal.LoadFault.{LoadFault}
@@ -99,7 +99,7 @@ module _ (m : Meaning) (trust : ℕ) where
   unfolding Counts row_added
   row_counts c d w h =
       let g = went_on (row_read w) (row_added m c) d h in
-      let k = was_called (row_fault m c g.value) (row_after m c g.value) d g.then in
+      let k = was_called (row_refusal m c g.value) (row_after m c g.value) d g.then in
       let left : row_after m c g.value ≡ with_row c g.value = let e = k.0 in rw e in
       ((row_taken m c g.value k.0).room, ap (λ (z : Content). length z.rows) (sym k.1 ∙ left) ∙ length-append c.rows (g.value ∷ []))
 
@@ -108,7 +108,7 @@ module _ (m : Meaning) (trust : ℕ) where
   line_counts c d w h =
       let g = went_on (line_read w) (λ l. line_added m c (trusted_line m trust l)) d h in
       let l = trusted_line m trust g.value in
-      let k = was_called (line_fault m c l) (line_after m c l) d g.then in
+      let k = was_called (line_refusal m c l) (line_after m c l) d g.then in
       let left : line_after m c l ≡ with_line c l = let e = k.0 in rw e in
       ((line_taken m c l k.0).room, ap (λ (z : Content). length z.lines) (sym k.1 ∙ left) ∙ length-append c.lines (l ∷ []))
 

@@ -8,7 +8,7 @@ use Rattle.costs.specs.Meaning.{Meaning}
 use Rattle.board.specs.declared.row.Row.{Row}
 use Rattle.board.specs.declared.row.Line.{Line}
 use Rattle.board.specs.Content.{Content, new}
-use Rattle.board.specs.Calls.{size_fault, size_after, with_size}
+use Rattle.board.specs.Calls.{size_refusal, size_after, with_size}
 use Rattle.file.specs.declared.fields.Header.{Header}
 use Rattle.file.specs.declared.refusal.FileRefusal.{FileRefusal}
 use Rattle.file.specs.declared.refusal.FileRefusal.TheVariants.{CutShort}
@@ -24,10 +24,10 @@ use Rattle.file.proofs.Loads.Limits.{went_on, was_called}
 use Rattle.file.proofs.Loads.Tails.{put_rows, put_lines, put_note, Tail, rows_tail, rows_accepted}
 
 -- the size that a header gives a new board
-size_was : (a b : ℕ) → size_fault new a b ≡ None → (0 < a * b) × (a * b ≤ 64)
+size_was : (a b : ℕ) → size_refusal new a b ≡ None → (0 < a * b) × (a * b ≤ 64)
 size_was a b h = (grind (arith, nat_tests), grind (arith, nat_tests))
 
-size_taken : (a b : ℕ) → 0 < a * b → a * b ≤ 64 → size_fault new a b ≡ None
+size_taken : (a b : ℕ) → 0 < a * b → a * b ≤ 64 → size_refusal new a b ≡ None
 size_taken a b h k = grind (arith, nat_tests)
 
 pub record SizedNew (h : Header) (d : Content) : Type 0 where
@@ -38,7 +38,7 @@ pub record SizedNew (h : Header) (d : Content) : Type 0 where
 sized_was : (h : Header) (d : Content) → sized h new ≡ Ok d → SizedNew h d
 unfolding sized
 sized_was h d e =
-    let k = was_called (size_fault new h.modes h.moments) (size_after new h.modes h.moments) d e in
+    let k = was_called (size_refusal new h.modes h.moments) (size_after new h.modes h.moments) d e in
     let s = size_was h.modes h.moments k.0 in
     record { some_place = s.0; few_places = s.1; is = rw k.0 at k.1 }
 

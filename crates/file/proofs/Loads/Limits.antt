@@ -8,7 +8,7 @@ use Rattle.board.specs.declared.row.Row.{Row}
 use Rattle.board.specs.declared.row.Line.{Line}
 use Rattle.board.specs.Rows.{formed}
 use Rattle.board.specs.Content.{Content}
-use Rattle.board.specs.Calls.{row_fault, row_after, with_row, line_fault, line_after, with_line}
+use Rattle.board.specs.Calls.{row_refusal, row_after, with_row, line_refusal, line_after, with_line}
 use Rattle.file.specs.Fields.{row_read, line_read}
 use Rattle.file.specs.Records.{go_on, called, row_added, line_added, trusted_line, row_record, line_record, records_added}
 use Rattle.file.specs.Layout.{row_word, line_word, row_bytes, line_bytes, Byte, RowLimits, LineLimits}
@@ -24,10 +24,10 @@ pub record RowTaken (m : Meaning) (c : Content) (r : Row) : Type 0 where
   pub price : Cost m r.cost
 
 module _ (m : Meaning) (c : Content) (r : Row) where
-  pub row_taken : row_fault m c r ≡ None → RowTaken m c r
+  pub row_taken : row_refusal m c r ≡ None → RowTaken m c r
   row_taken h = record { room = grind (arith, nat_tests); from_in = grind (arith, nat_tests); to_in = grind (arith, nat_tests); well_formed = grind (arith, nat_tests); price = grind (arith, nat_tests) }
 
-  pub takes_row : RowTaken m c r → row_fault m c r ≡ None
+  pub takes_row : RowTaken m c r → row_refusal m c r ≡ None
   takes_row h = grind (arith, nat_tests)
 
 -- a line that the board takes
@@ -39,10 +39,10 @@ pub record LineTaken (m : Meaning) (c : Content) (l : Line) : Type 0 where
   pub price : Cost m l.cost
 
 module _ (m : Meaning) (c : Content) (l : Line) where
-  pub line_taken : line_fault m c l ≡ None → LineTaken m c l
+  pub line_taken : line_refusal m c l ≡ None → LineTaken m c l
   line_taken h = record { room = grind (arith, nat_tests); from_in = grind (arith, nat_tests); to_in = grind (arith, nat_tests); some_event = grind (arith, nat_tests); price = grind (arith, nat_tests) }
 
-  pub takes_line : LineTaken m c l → line_fault m c l ≡ None
+  pub takes_line : LineTaken m c l → line_refusal m c l ≡ None
   takes_line h = grind (arith, nat_tests)
 
 -- what was answered before an answer that followed it
@@ -62,10 +62,10 @@ was_called (Some e) after d h = absurd cc
 
 -- the board takes the row, or the line as trust has it
 abbrev pub TakesRow : Meaning → Content → Row → Type 0
-TakesRow m c r = row_fault m c r ≡ None
+TakesRow m c r = row_refusal m c r ≡ None
 
 abbrev pub TakesLine : Meaning → ℕ → Content → Line → Type 0
-TakesLine m trust c l = line_fault m c (trusted_line m trust l) ≡ None
+TakesLine m trust c l = line_refusal m c (trusted_line m trust l) ≡ None
 
 abbrev pub line_put : Meaning → ℕ → Content → Line → Content
 line_put m trust c l = line_after m c (trusted_line m trust l)
@@ -86,7 +86,7 @@ module _ (m : Meaning) (trust : ℕ) where
   unfolding row_added
   row_back c d w b h =
       let g = went_on (row_read w) (row_added m c) d h in
-      let k = was_called (row_fault m c g.value) (row_after m c g.value) d g.then in
+      let k = was_called (row_refusal m c g.value) (row_after m c g.value) d g.then in
       let was = row_read_word w g.value b g.answered in
       record { entry = g.value; fits = was.0; is = was.1; taken = k.0; after = k.1 }
 
@@ -98,7 +98,7 @@ module _ (m : Meaning) (trust : ℕ) where
   unfolding line_added
   line_back c d w b h =
       let g = went_on (line_read w) (λ (l : Line). line_added m c (trusted_line m trust l)) d h in
-      let k = was_called (line_fault m c (trusted_line m trust g.value)) (line_put m trust c g.value) d g.then in
+      let k = was_called (line_refusal m c (trusted_line m trust g.value)) (line_put m trust c g.value) d g.then in
       let was = line_read_word w g.value b g.answered in
       record { entry = g.value; fits = was.0; is = was.1; taken = k.0; after = k.1 }
 

@@ -7,10 +7,10 @@ use Rattle.board.specs.declared.row.RowKind.{RowKind}
 use Rattle.board.specs.declared.row.RowKind.TheVariants.{Plain, Open, Close, End}
 use Rattle.board.specs.declared.row.Row.{Row}
 use Rattle.board.specs.declared.row.Line.{Line}
-use Rattle.board.specs.Rows.{kind_number}
+use Rattle.board.specs.Rows.{kind_number, kind_of_bits}
 use Rattle.file.specs.declared.fields.Header.{Header}
 use Rattle.file.specs.declared.refusal.FileRefusal.{FileRefusal}
-use Rattle.file.specs.Fields.{field, kind_at, row_fields, row_read, line_fields, line_read, header_fields, header_read}
+use Rattle.file.specs.Fields.{field, row_fields, row_read, line_fields, line_read, header_fields, header_read}
 use Rattle.file.specs.Layout.{row_word, line_word, head_word, header_word, InBits, Byte, Count}
 
 -- the numbers of a row and of a line fit their fields
@@ -33,13 +33,13 @@ kind_below Open = omega arith
 kind_below Close = omega arith
 kind_below End = omega arith
 
-kind_again : (k : RowKind) → kind_at (kind_number k) ≡ k
+kind_again : (k : RowKind) → kind_of_bits (kind_number k) ≡ k
 kind_again Plain = refl
 kind_again Open = refl
 kind_again Close = refl
 kind_again End = refl
 
-number_again : (n : ℕ) → n < 4 → kind_number (kind_at n) ≡ n
+number_again : (n : ℕ) → n < 4 → kind_number (kind_of_bits n) ≡ n
 number_again n h = grind (arith, nat_tests)
 
 -- what is read unless a zero bit is not zero
@@ -63,13 +63,13 @@ row_word_read r h =
     let action : field w 34 8 ≡ r.action = omega arith in
     let zeros : field w 32 2 ≡ 0 = omega arith in
     let cost : field w 0 32 ≡ r.cost = omega arith in
-    let kinds : kind_at (field w 62 2) ≡ r.kind = ap kind_at kind ∙ kind_again r.kind in
+    let kinds : kind_of_bits (field w 62 2) ≡ r.kind = ap kind_of_bits kind ∙ kind_again r.kind in
     read_if (field w 32 2) (row_fields w) r _ zeros (λ i. record { kind = kinds i; from = from i; to = to i; label = label i; action = action i; cost = cost i })
 
 pub row_read_word : (w : ℕ) (r : Row) → w < 2 ^ 64 → row_read w ≡ Ok r → RowFits r × (row_word r ≡ w)
 row_read_word w r h e =
     let z = was_read (field w 32 2) (row_fields w) r _ e in
-    let number : kind_number (kind_at (field w 62 2)) ≡ field w 62 2 = number_again (field w 62 2) (omega arith) in
+    let number : kind_number (kind_of_bits (field w 62 2)) ≡ field w 62 2 = number_again (field w 62 2) (omega arith) in
     let zeros : field w 32 2 ≡ 0 = z.0 in
     let P : Row → Type 0 = λ x. RowFits x × (row_word x ≡ w) in
     subst P z.1 (

@@ -5,7 +5,7 @@ use Rattle.costs.specs.Meaning.{Meaning}
 use Rattle.board.specs.declared.refusal.Refusal.{Refusal}
 use Rattle.board.specs.Refusals.{answer}
 use Rattle.board.specs.Content.{Content}
-use Rattle.board.specs.Calls.{size_fault, size_after}
+use Rattle.board.specs.Calls.{size_refusal, size_after}
 use Rattle.board.specs.Held.{draft_content}
 use Rattle.file.specs.declared.fields.Header.{Header}
 use Rattle.file.specs.declared.refusal.FileRefusal.{FileRefusal}
@@ -32,13 +32,13 @@ accepted None d after x h k = ap Ok k
 accepted (Some r) d after x h k = absurd cc
 
 module _ (c : Content) (h : Header) (a b : ℕ) (modes : a ≡ h.modes) (moments : b ≡ h.moments) where
-  size_declined : (e : Refusal) → Err e ≡ answer (size_fault c a b) (tt {0}) → Err (Board e) ≡ sized h c
+  size_declined : (e : Refusal) → Err e ≡ answer (size_refusal c a b) (tt {0}) → Err (Board e) ≡ sized h c
   unfolding sized
-  size_declined e k = declined (size_fault c h.modes h.moments) (size_after c h.modes h.moments) e (k ∙ (λ i. answer (size_fault c (modes i) (moments i)) (tt {0})))
+  size_declined e k = declined (size_refusal c h.modes h.moments) (size_after c h.modes h.moments) e (k ∙ (λ i. answer (size_refusal c (modes i) (moments i)) (tt {0})))
 
-  size_accepted : (d : Content) (x : Unit {0}) → Ok x ≡ answer (size_fault c a b) (tt {0}) → d ≡ size_after c a b → Ok d ≡ sized h c
+  size_accepted : (d : Content) (x : Unit {0}) → Ok x ≡ answer (size_refusal c a b) (tt {0}) → d ≡ size_after c a b → Ok d ≡ sized h c
   unfolding sized
-  size_accepted d x k l = accepted (size_fault c h.modes h.moments) d (size_after c h.modes h.moments) x (k ∙ (λ i. answer (size_fault c (modes i) (moments i)) (tt {0}))) (l ∙ (λ i. size_after c (modes i) (moments i)))
+  size_accepted d x k l = accepted (size_refusal c h.modes h.moments) d (size_after c h.modes h.moments) x (k ∙ (λ i. answer (size_refusal c (modes i) (moments i)) (tt {0}))) (l ∙ (λ i. size_after c (modes i) (moments i)))
 
 pub returns-in_err-size-clause-after : goal.returns-in_err-size-clause-after
 returns-in_err-size-clause-after g c =

@@ -18,4 +18,4 @@ returns g c =
     let m = g.K.Kind.meaning in
     let calls = c.args.calls.now in
     let h : MadeBy m calls c.loop-call.board = subst (λ (xs : List Call). MadeBy m xs c.loop-call.board) (take_all c.loop-call.call-index calls c.loop-call-test.false) c.loop-call.invariant in
-    record { holds = h; records = records_defined c.loop-call.board ∙ ap (defined_records m) h; cheapest = answers_cheapest_when_settled g.met.K.Kind.lawful c.board_theorems.ensures.promises calls }
+    record { holds = h; records = records_defined c.loop-call.board ∙ ap (defined_records m) h; cheapest = answers_cheapest_when_settled g.met.K.Kind.lawful c.board_theorems.ensures.calls_and_settling calls }

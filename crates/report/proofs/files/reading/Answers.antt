@@ -27,7 +27,7 @@ push_moves-requires g c =
     let buffer : List Move = replicate 4096 (bare 0) in
     let w : WritesCheapest (λ v. v) m (settled_content s) (settled_log m (settled_content s)) buffer c.in-Ok-moves.n c.moves.new.buffer =
     subst (λ (l : List Record). WritesCheapest (λ v. v) m (settled_content s) l buffer c.in-Ok-moves.n c.moves.new.buffer) (settled_defined s) c.in-Ok-moves.ensures.means in
-    front_held g.met.K.Kind.lawful c.board_theorems.ensures.promises (settled_sound s) buffer c.moves.new.buffer c.in-Ok-moves.n w
+    front_held g.met.K.Kind.lawful c.board_theorems.ensures.calls_and_settling (settled_sound s) buffer c.moves.new.buffer c.in-Ok-moves.n w
 
 pub returns : goal.returns
 returns g c =
@@ -39,4 +39,4 @@ returns g c =
     let cheapest = c.in-Ok.ensures.means in
     let recorded : RecordedReading m (settled_content s) (settled_log m (settled_content s)) c.in-Ok.cost cheapest.reading =
     subst (λ (l : List Record). RecordedReading m (settled_content s) l c.in-Ok.cost cheapest.reading) (settled_defined s) cheapest.recorded in
-    printed g.met.K.Kind.lawful c.board_theorems.ensures.promises (settled_sound s) buffer c.moves.new.buffer c.in-Ok-moves.n w _ _ recorded (omega (arith, length-replicate {A = Move} 4096 (bare 0))) c.in_ok-out.ensures c.in_ok-push_moves.ensures
+    printed g.met.K.Kind.lawful c.board_theorems.ensures.calls_and_settling (settled_sound s) buffer c.moves.new.buffer c.in-Ok-moves.n w _ _ recorded (omega (arith, length-replicate {A = Move} 4096 (bare 0))) c.in_ok-out.ensures c.in_ok-push_moves.ensures

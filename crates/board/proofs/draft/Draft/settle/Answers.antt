@@ -10,8 +10,8 @@ invariant_of-result-clause-settled g c =
     let laws = g.met.K.Kind.lawful in
     unique laws t.sound c.settled_log-log.ensures.settled (settling_computed g.K.Kind.meaning (held t) laws t.sound).settled
 
-pub returns-clause-promises : goal.returns-clause-promises
-returns-clause-promises g c = board_promises
+pub returns-clause-calls_and_settling : goal.returns-clause-calls_and_settling
+returns-clause-calls_and_settling g c = board_promises
 
 pub returns-clause-example : goal.returns-clause-example
 returns-clause-example g c = settling_examples
