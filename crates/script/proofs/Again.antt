@@ -1,5 +1,6 @@
 -- A line that says a call has no '>', so the call is said again where an answer stands behind it.
 use Rattle.std.proofs.Common.{◌≡◌, ℕ, Bool, true, false, cond, List, [], ◌∷◌, ◌++◌, get_or, Some, None, Ok, Err, codes, Option, Result, sym, refl, ap, ◌∙◌, subst, ⊎_elim, arith}
+use Rattle.std.specs.Str.{all_ascii_digits}
 use Rattle.std.specs.List.{filter, onto_first, AllByRecursion}
 use Rattle.std.specs.Option.{option_map}
 use Rattle.std.proofs.lemmas.Option.{cond_some, option_and_then_some}
@@ -13,7 +14,7 @@ use Rattle.costs.specs.Names.{kind_by_letter}
 use Rattle.hex.specs.Hex.{hex_digit_value, is_hex_digit, decode_of}
 use Rattle.hex.proofs.HexLemmas.{decode_of-ok}
 use Rattle.words.specs.Hex.{then_digit, bytes_of, hex_on, hex_number_of}
-use Rattle.words.specs.Numbers.{all_digits, is_number, number_of, number_before, numbers_of}
+use Rattle.words.specs.Numbers.{is_number, number_of, number_before, numbers_of}
 use Rattle.words.specs.Pieces.{spacing, has_byte, pieces_of, NoSeparator}
 use Rattle.words.specs.Splits.{split_of}
 use Rattle.words.specs.Laws.{WordLaws}
@@ -58,7 +59,7 @@ number_free : (limit : ℕ) (w : List ℕ) (n : ℕ) → number_of limit w ≡ S
 unfolding number_of
 number_free limit w n e =
     let is = (cond_some (is_number limit w) _ n e).0 in
-    fewer reserved point no_point w (free_digits w (and_parts (all_digits w) _ (and_parts _ _ is).1).0)
+    fewer reserved point no_point w (free_digits w (and_parts (all_ascii_digits w) _ (and_parts _ _ is).1).0)
 
 before_some : (o : Option ℕ) (p : Option (List ℕ)) (ns : List ℕ) → number_before o p ≡ Some ns → (n : ℕ) × (o ≡ Some n) × (ks : List ℕ) × (p ≡ Some ks)
 before_some None p ns e = absurd cc

@@ -1,5 +1,6 @@
 -- What a script of calls prints: each call, and its answer after the calls before it.
 use Rattle.std.proofs.Common.{◌≡◌, ℕ, List, [], ◌∷◌, ◌++◌, map, Some, None, codes, Option, sym, refl, ap, ap₂, ◌∙◌, append_assoc, append-nil}
+use Rattle.std.specs.Char.{is_newline}
 use Rattle.std.specs.List.{AllByRecursion}
 use Rattle.std.proofs.lemmas.List.{map-append}
 use Rattle.costs.specs.declared.kind_name.KindName.{KindName}
@@ -7,7 +8,7 @@ use Rattle.costs.specs.Names.{meaning_of}
 use Rattle.board.specs.Content.{new}
 use Rattle.file.specs.declared.call.Call.{Call}
 use Rattle.file.specs.States.{State, draft, stepped, state_from, state_after}
-use Rattle.words.specs.Pieces.{newline, pieces_of}
+use Rattle.words.specs.Pieces.{pieces_of}
 use Rattle.words.specs.Laws.{WordLaws}
 use Rattle.script.specs.Commands.{Command, kind, on_board}
 use Rattle.script.specs.Script.{script_part_of, line_parsed, LineParsed}
@@ -52,10 +53,10 @@ module _ (laws : WordLaws) where
         ap (λ (t : Option SessionState). after_lines t (map written_line cs)) next ∙ calls_after (stepped (meaning_of k) s x) cs xs fits.1 there
 
     -- what is printed from a line on that names the kind
-    kind_line : (s : Option SessionState) (rest : List ℕ) → printed_from s (pieces_of newline (written_line (kind k) ++ (codes "\n" ++ rest))) ≡ (written_line (kind k) ++ codes "\n") ++ printed_from (at k (draft new)) (pieces_of newline rest)
+    kind_line : (s : Option SessionState) (rest : List ℕ) → printed_from s (pieces_of is_newline (written_line (kind k) ++ (codes "\n" ++ rest))) ≡ (written_line (kind k) ++ codes "\n") ++ printed_from (at k (draft new)) (pieces_of is_newline rest)
     kind_line s rest =
         ap (printed_from s) (line_first laws (kind k) tt rest)
-        ∙ ap₂ (λ (t : List ℕ) (p : LineParsed). t ++ printed_from (after_line s p) (pieces_of newline rest)) (call_line s (kind k) tt) ((reads_written laws).alone (kind k) tt)
+        ∙ ap₂ (λ (t : List ℕ) (p : LineParsed). t ++ printed_from (after_line s p) (pieces_of is_newline rest)) (call_line s (kind k) tt) ((reads_written laws).alone (kind k) tt)
 
     -- a script that names the kind first
     named_first : (cs : List Command) → AllByRecursion Fits cs → printed (script_of (kind k ∷ cs)) ≡ (written_line (kind k) ++ codes "\n") ++ printed_from (at k (draft new)) (map written_line cs)
@@ -88,8 +89,8 @@ prints_answers laws = record {
       ∙ sym (append_assoc first lines (answered_line c answer))
       ∙ ap (λ (t : List ℕ). t ++ answered_line c answer) (sym (named_first laws k before fits));
   anew = λ k before rest.
-      let lines = pieces_of newline before in
-      ap (printed_from None) ((laws.cuts newline).apart before 10 (written_line (kind k) ++ (codes "\n" ++ rest)) refl)
-      ∙ printed_on None lines (pieces_of newline (written_line (kind k) ++ (codes "\n" ++ rest)))
+      let lines = pieces_of is_newline before in
+      ap (printed_from None) ((laws.cuts is_newline).apart before 10 (written_line (kind k) ++ (codes "\n" ++ rest)) refl)
+      ∙ printed_on None lines (pieces_of is_newline (written_line (kind k) ++ (codes "\n" ++ rest)))
       ∙ ap (λ (t : List ℕ). printed before ++ t) (kind_line laws k (after_lines None lines) rest ∙ sym (kind_line laws k None rest));
 }

@@ -1,7 +1,7 @@
 -- Written calls read back.
 use Rattle.std.proofs.Common.{◌≡◌, ℕ, ◌^◌, ◌<◌, ◌≤◌, Bool, true, false, List, [], ◌∷◌, map, length, get_or, Some, decimal, refl, ap, ◌∙◌, arith}
 use Rattle.std.specs.Option.{option_map, option_and_then}
-use Rattle.std.specs.List.{AllByRecursion}
+use Rattle.std.specs.List.{AllByRecursion, AllZip}
 use Rattle.std.proofs.lemmas.Bool.{cond-true, le-leb}
 use Rattle.costs.specs.Names.{letter_of}
 use Rattle.costs.specs.declared.kind_name.KindName.{KindName}
@@ -20,10 +20,14 @@ use Rattle.script.specs.Forms.{longest_list, two_wide, row_limits, line_limits, 
 use Rattle.script.specs.Names.{spells}
 use Rattle.script.specs.Runs.{run_of, run_from, split_run, run_before, runs_of, not_too_long, check_call}
 use Rattle.script.specs.Script.{call, call_parsed, words_parsed}
-use Rattle.script.specs.Written.{file_words, row_numbers, line_numbers, name_word, words_after, written_line, UpTo, Fits, CallsReadBack}
+use Rattle.script.specs.Written.{file_words, row_numbers, line_numbers, name_word, words_after, written_line, Fits, CallsReadBack}
 use Rattle.script.proofs.Unreserved.{Unreserved, is_unreserved, reserved, point, star, fewer, no_star, unreserved_decimal, unreserved_bytes, unreserved_u16, unreserved_text, unreserved_letter, no_point, spaced_pieces, line_without}
 use Rattle.script.proofs.Again.{said_again}
 use Rattle.script.proofs.Arrows.{line_alone, line_answered, no_star_split}
+
+-- as many numbers as limits, each at most its limit: of lists that are written out, what `Within` says
+abbrev UpTo : List ℕ → List ℕ → Type 0
+UpTo limits ns = AllZip (λ limit n. n ≤ limit) limits ns
 
 -- numbers and moves
 module _ (laws : WordLaws) where

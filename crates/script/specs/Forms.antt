@@ -83,8 +83,7 @@ file_word (w ∷ []) = Some w
 file_word (w ∷ v ∷ ws) = None
 
 abbrev pub file_call : Option (List ℕ) → Option Command
-file_call None = None
-file_call (Some w) = option_map load (bytes_of w)
+file_call word = option_and_then (λ w. option_map load (bytes_of w)) word
 
 abbrev pub load_call : List (List ℕ) → Option Command
 load_call ws = file_call (file_word ws)

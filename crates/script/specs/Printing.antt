@@ -1,6 +1,8 @@
 -- What is printed of a script: each line with its answer.
 use Rattle.std.specs.Prelude.{◌≡◌, ℕ, map, List, [], ◌∷◌, ◌++◌, replicate, Some, None, codes, Option}
+use Rattle.std.specs.Char.{is_newline}
 use Rattle.std.specs.List.{AllByRecursion, flat_map}
+use Rattle.std.specs.Option.{option_map, option_map_or}
 use Rattle.costs.specs.declared.kind_name.KindName.{KindName}
 use Rattle.costs.specs.Meaning.{Meaning}
 use Rattle.costs.specs.Names.{meaning_of}
@@ -10,7 +12,7 @@ use Rattle.file.specs.States.{State, draft, stepped, state_after}
 use Rattle.file.specs.declared.call.Answer.TheVariants.{NotTaken}
 use Rattle.file.specs.Answers.{step_answer, step_buffer}
 use Rattle.file.specs.Histories.{defined_records}
-use Rattle.words.specs.Pieces.{newline, pieces_of}
+use Rattle.words.specs.Pieces.{pieces_of}
 use Rattle.script.specs.Commands.{Command, kind, path, on_board}
 use Rattle.script.specs.Script.{LineParsed, skip, unreadable, call, script_part_of, line_parsed}
 use Rattle.script.specs.Telling.{file_of, told_text}
@@ -32,22 +34,18 @@ answer_text m s x buffer = told_text (step_answer m s (defined_records m s) x bu
 
 -- the same of a call that there may be, and the state after it; without one nothing is printed, and the state stays
 abbrev pub made_text : Meaning → State → Option Call → List ℕ → List ℕ
-made_text m s None buffer = []
-made_text m s (Some x) buffer = answer_text m s x buffer
+made_text m s x buffer = option_map_or (λ x. answer_text m s x buffer) x []
 
 abbrev pub made_state : Meaning → State → Option Call → State
-made_state m s None = s
-made_state m s (Some x) = stepped m s x
+made_state m s x = option_map_or (stepped m s) x s
 
 -- what is printed of a call's answer on the board that there is, and the board after it; where no kind was named yet, the
 -- call is not taken
 abbrev pub board_text : Option SessionState → Command → List ℕ
-board_text None c = told_text NotTaken [] []
-board_text (Some s) c = made_text (meaning_of s.kind) s.state (on_board c) (buffer_of c)
+board_text s c = option_map_or (λ s. made_text (meaning_of s.kind) s.state (on_board c) (buffer_of c)) s (told_text NotTaken [] [])
 
 abbrev pub board_after : Option SessionState → Command → Option SessionState
-board_after None c = None
-board_after (Some s) c = Some (record { kind = s.kind; state = made_state (meaning_of s.kind) s.state (on_board c) })
+board_after s c = option_map (λ s. record { kind = s.kind; state = made_state (meaning_of s.kind) s.state (on_board c) }) s
 
 -- What is printed behind any call, and the board after it: naming a kind begins a new board, and has no answer.
 abbrev pub call_text : Option SessionState → Command → List ℕ
@@ -77,7 +75,7 @@ printed_from s (l ∷ ls) = line_text s (script_part_of l) (line_parsed l) ++ pr
 
 -- What is printed of a script: of its lines, before any kind is named.
 abbrev pub printed : List ℕ → List ℕ
-printed bytes = printed_from None (pieces_of newline bytes)
+printed bytes = printed_from None (pieces_of is_newline bytes)
 
 -- these calls as a script, a line each
 abbrev pub script_of : List Command → List ℕ

@@ -1,6 +1,6 @@
 -- The words of check: a number of 16 bits in hexadecimal, or HEX*K for that number K times.
 use Rattle.std.specs.Prelude.{ℕ, cond, List, [], ◌∷◌, ◌++◌, length, replicate, Some, None, codes, Option, nat_le}
-use Rattle.std.specs.Option.{option_map}
+use Rattle.std.specs.Option.{option_map, option_zip, option_and_then, option_map_or}
 use Rattle.words.specs.Hex.{hex_number_of}
 use Rattle.words.specs.Numbers.{u32_max, number_of}
 use Rattle.words.specs.Splits.{split_of}
@@ -10,14 +10,11 @@ use Rattle.script.specs.declared.check.Run.{Run}
 
 -- a number so many times
 abbrev pub run_from : Option ℕ → Option ℕ → Option Run
-run_from None times = None
-run_from (Some number) None = None
-run_from (Some number) (Some times) = Some (record { number = number; times = times })
+run_from number times = option_map (λ p. record { number = p.0; times = p.1 }) (option_zip number times)
 
 -- a word that is split at its star, or has none
 abbrev pub split_run : List ℕ → Option (List ℕ × List ℕ) → Option Run
-split_run w None = run_from (hex_number_of w) (Some 1)
-split_run w (Some p) = run_from (hex_number_of p.0) (number_of u32_max p.1)
+split_run w parts = option_map_or (λ p. run_from (hex_number_of p.0) (number_of u32_max p.1)) parts (run_from (hex_number_of w) (Some 1))
 
 abbrev pub run_of : List ℕ → Option Run
 run_of w = split_run w (split_of (codes "*") w)
@@ -28,9 +25,7 @@ run_moves r = replicate r.times r.number
 
 -- a run before what follows it
 abbrev pub run_before : Option Run → Option (List ℕ) → Option (List ℕ)
-run_before None ms = None
-run_before (Some r) None = None
-run_before (Some r) (Some ms) = Some (run_moves r ++ ms)
+run_before r ms = option_map (λ p. run_moves p.0 ++ p.1) (option_zip r ms)
 
 abbrev pub runs_of : List (List ℕ) → Option (List ℕ)
 runs_of [] = Some []
@@ -38,8 +33,7 @@ runs_of (w ∷ ws) = run_before (run_of w) (runs_of ws)
 
 -- a list of at most the longest length
 abbrev pub not_too_long : Option (List ℕ) → Option (List ℕ)
-not_too_long None = None
-not_too_long (Some ms) = cond (nat_le (length ms) longest_list) (Some ms) None
+not_too_long ms = option_and_then (λ xs. cond (nat_le (length xs) longest_list) (Some xs) None) ms
 
 -- the numbers that the words list
 abbrev pub moves_of : List (List ℕ) → Option (List ℕ)

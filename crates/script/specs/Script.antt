@@ -1,5 +1,6 @@
 -- What a line of a script says.
 use Rattle.std.specs.Prelude.{ℕ, Bool, cond, List, [], ◌∷◌, Some, None, Ok, Err, codes, Option, Result, ◌==◌, slice_index}
+use Rattle.std.specs.Option.{option_map_or}
 use Rattle.words.specs.Pieces.{spacing, pieces_of}
 use Rattle.words.specs.Splits.{split_of}
 use Rattle.words.specs.Trims.{trimmed_of}
@@ -23,8 +24,7 @@ pub data LineParsed : Type 0 where
 
 -- what stands before the first arrow, or all of the line
 abbrev pub before_split : List ℕ → Option (List ℕ × List ℕ) → List ℕ
-before_split line None = line
-before_split line (Some p) = p.0
+before_split line parts = option_map_or (λ p. p.0) parts line
 
 -- the part of a line that is the script: what stands before the first arrow, without spacing at its ends
 abbrev pub script_part_of : List ℕ → List ℕ
@@ -48,12 +48,10 @@ call_of Between ws = between_call ws
 call_of Check ws = check_call ws
 
 abbrev pub call_parsed : Option Command → LineParsed
-call_parsed None = unreadable
-call_parsed (Some c) = call c
+call_parsed c = option_map_or call c unreadable
 
 abbrev pub name_parsed : Option Name → List (List ℕ) → LineParsed
-name_parsed None ws = unreadable
-name_parsed (Some n) ws = call_parsed (call_of n ws)
+name_parsed name ws = option_map_or (λ n. call_parsed (call_of n ws)) name unreadable
 
 -- a word that begins a comment: its first byte is '#'
 abbrev pub is_comment : List ℕ → Bool

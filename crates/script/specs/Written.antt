@@ -1,11 +1,12 @@
 -- Calls as lines: how each is written, and that it reads back.
 use Rattle.std.specs.Prelude.{◌≡◌, ℕ, ◌^◌, ◌<◌, ◌≤◌, List, [], ◌∷◌, ◌++◌, map, length, codes, decimal}
-use Rattle.std.specs.List.{flat_map, AllByRecursion, AllZip}
+use Rattle.std.specs.List.{flat_map, AllByRecursion}
 use Rattle.costs.specs.Names.{letter_of}
 use Rattle.board.specs.declared.row.Row.{Row}
 use Rattle.board.specs.declared.row.Line.{Line}
 use Rattle.board.specs.Rows.{kind_number}
 use Rattle.words.specs.Hex.{written_bytes, written_u16}
+use Rattle.words.specs.Numbers.{Within}
 use Rattle.script.specs.Commands.{Command, kind, size, row, line, reprice_row, reprice_line, clear, load, settle, reopen, cost, path, between, check}
 use Rattle.script.specs.Forms.{longest_list, two_wide, row_limits, line_limits}
 use Rattle.script.specs.Script.{call, script_part_of, line_parsed}
@@ -64,25 +65,21 @@ words_after (check ms) = map written_u16 ms
 abbrev pub written_line : Command → List ℕ
 written_line c = name_word c ++ spaced (words_after c)
 
--- as many numbers as limits, each at most its limit
-abbrev pub UpTo : List ℕ → List ℕ → Type 0
-UpTo limits ns = AllZip (λ limit n. n ≤ limit) limits ns
-
 -- the numbers of a call are within their limits
 abbrev pub Fits : Command → Type 0
 Fits (kind k) = Unit {0}
-Fits (size m t) = UpTo two_wide (m ∷ t ∷ [])
-Fits (row r) = UpTo row_limits (row_numbers r)
-Fits (line l) = UpTo line_limits (line_numbers l)
-Fits (reprice_row i c) = UpTo two_wide (i ∷ c ∷ [])
-Fits (reprice_line i c) = UpTo two_wide (i ∷ c ∷ [])
+Fits (size m t) = Within two_wide (m ∷ t ∷ [])
+Fits (row r) = Within row_limits (row_numbers r)
+Fits (line l) = Within line_limits (line_numbers l)
+Fits (reprice_row i c) = Within two_wide (i ∷ c ∷ [])
+Fits (reprice_line i c) = Within two_wide (i ∷ c ∷ [])
 Fits clear = Unit {0}
 Fits (load bs) = AllByRecursion (λ b. b < 2 ^ 8) bs
 Fits settle = Unit {0}
 Fits reopen = Unit {0}
 Fits cost = Unit {0}
 Fits (path n) = n ≤ longest_list
-Fits (between s q) = UpTo two_wide (s ∷ q ∷ [])
+Fits (between s q) = Within two_wide (s ∷ q ∷ [])
 Fits (check ms) = AllByRecursion (λ m. m < 2 ^ 16) ms × (length ms ≤ longest_list)
 
 -- The laws of a call's line.
