@@ -1,12 +1,15 @@
 -- A line written as a letter and costs in decimal digits.
 use Rattle.std.proofs.Common.{◌≡◌, ℕ, zero, suc, ◌-◌, ◌<◌, ◌≤◌, Bool, true, false, eqb, leb, List, [], ◌∷◌, ◌++◌, map, length, get_or, Some, Ok, decimal, refl, ap, ◌∙◌, append-nil, arith}
+use Rattle.std.specs.Str.{all_ascii_digits}
+use Rattle.std.specs.Char.{is_ascii_digit}
 use Rattle.std.proofs.lemmas.Fmt.{decimal_nonempty}
 use Rattle.std.proofs.lemmas.Bool.{cond-false, and_parts, or_from, ne_eqb, leb-true}
 use Rattle.std.proofs.lemmas.Bool.Decides.{nat_tests}
 use Rattle.costs.specs.Meaning.{Meaning}
-use Rattle.words.specs.Numbers.{is_digit, all_digits, u32_max}
+use Rattle.words.specs.Numbers.{u32_max}
 use Rattle.words.specs.Pieces.{spacing, pieces_of, NoSeparator}
-use Rattle.price.specs.Lines.{without_return, kind_with_letter, read_first, read_costs, costs_answer, kind_answer, words_answer, written_costs, Of32Bits, CostsReadBack}
+use Rattle.std.specs.Str.Lines.{strip_carriage_return}
+use Rattle.price.specs.Lines.{kind_with_letter, cost_before, read_costs, costs_answer, kind_answer, words_answer, written_costs, Of32Bits, CostsReadBack}
 use Rattle.words.specs.Laws.{WordLaws}
 
 -- a carriage return
@@ -14,10 +17,10 @@ abbrev returns : ℕ → Bool
 returns b = eqb b 13
 
 module _ (sep : ℕ → Bool) where
-  uncut_digits : ((b : ℕ) → 48 ≤ b → sep b ≡ false) → (ds : List ℕ) → all_digits ds ≡ true → NoSeparator sep ds
+  uncut_digits : ((b : ℕ) → 48 ≤ b → sep b ≡ false) → (ds : List ℕ) → all_ascii_digits ds ≡ true → NoSeparator sep ds
   uncut_digits high [] h = tt
   uncut_digits high (d ∷ ds) h =
-      let both = and_parts (is_digit d) (all_digits ds) h in
+      let both = and_parts (is_ascii_digit d) (all_ascii_digits ds) h in
       (high d (leb-true 48 d (and_parts (leb 48 d) (leb d 57) both.0).0), uncut_digits high ds both.1)
 
   uncut_at : sep 0 ≡ false → (bs : List ℕ) (i : ℕ) → NoSeparator sep bs → sep (get_or bs i 0) ≡ false
@@ -55,15 +58,15 @@ module _ (laws : WordLaws) where
   written_numbers : (xs : List ℕ) → Of32Bits xs → read_costs (map decimal xs) ≡ Ok xs
   written_numbers [] small = refl
   written_numbers (x ∷ xs) small =
-      ap (λ o. read_first (decimal x) o (read_costs (map decimal xs))) (laws.numbers_back u32_max (omega arith) x (omega (arith, small.0)))
-      ∙ ap (read_first (decimal x) (Some x)) (written_numbers xs small.1)
+      ap (λ o. cost_before (decimal x) o (read_costs (map decimal xs))) (laws.numbers_back u32_max (omega arith) x (omega (arith, small.0)))
+      ∙ ap (cost_before (decimal x) (Some x)) (written_numbers xs small.1)
 
   pub reads_written : CostsReadBack
   reads_written l m e xs small =
       let line = l ∷ written_costs xs in
       let high = letter_high l m e in
       let uncut : NoSeparator returns line = (not_return l (omega arith), no_return xs small) in
-      let whole : without_return line ≡ line = cond-false _ _ _ (uncut_at returns refl line (length line - 1) uncut) in
+      let whole : strip_carriage_return line ≡ line = cond-false _ _ _ (uncut_at returns refl line (length line - 1) uncut) in
       let cut = written_words (l ∷ []) xs (omega arith) (not_spacing l (omega arith), tt) small in
       ap (λ bs. words_answer (pieces_of spacing bs)) whole
       ∙ ap words_answer cut

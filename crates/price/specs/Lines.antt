@@ -1,7 +1,9 @@
 -- What a line comes to.
 use Rattle.std.specs.Prelude.{◌≡◌, ℕ, ◌-◌, ◌^◌, ◌<◌, cond, List, [], ◌∷◌, map, length, take, Some, None, Ok, Err, decimal, Option, Result, ◌==◌, slice_index, slice_index_or}
 use Rattle.std.specs.List.{flat_map, AllByRecursion}
-use Rattle.std.specs.Option.{option_map}
+use Rattle.std.specs.Option.{option_map, option_map_or}
+use Rattle.std.specs.Result.{result_map_both}
+use Rattle.std.specs.Str.Lines.{strip_carriage_return}
 use Rattle.costs.specs.Meaning.{Meaning}
 use Rattle.costs.specs.Lists.{join_answer}
 use Rattle.costs.specs.Names.{meaning_of, letter_of, kind_by_letter}
@@ -22,13 +24,9 @@ pub data LineAnswer : Type 0 where
   -- the first word that cannot be read
   unreadable : List ℕ → LineAnswer
 
--- a line without a carriage return at its end
-abbrev pub without_return : List ℕ → List ℕ
-without_return bs = cond (slice_index bs (length bs - 1) == 13) (take (length bs - 1) bs) bs
-
--- a line's words
+-- a line's words, without a carriage return at its end
 abbrev pub words_of : List ℕ → List (List ℕ)
-words_of line = pieces_of spacing (without_return line)
+words_of line = pieces_of spacing (strip_carriage_return line)
 
 -- the kind that has the letter
 abbrev pub kind_with_letter : ℕ → Option Meaning
@@ -41,15 +39,13 @@ kind_of (l ∷ []) = kind_with_letter l
 kind_of (l ∷ b ∷ bs) = None
 
 -- the first word's number before those of the words after it
-abbrev pub read_first : List ℕ → Option ℕ → Result (List ℕ) (List ℕ) → Result (List ℕ) (List ℕ)
-read_first w None rest = Err w
-read_first w (Some n) (Ok ns) = Ok (n ∷ ns)
-read_first w (Some n) (Err v) = Err v
+abbrev pub cost_before : List ℕ → Option ℕ → Result (List ℕ) (List ℕ) → Result (List ℕ) (List ℕ)
+cost_before w number rest = option_map_or (λ n. result_map_both (λ ns. n ∷ ns) (λ v. v) rest) number (Err w)
 
 -- the words' numbers, or the first word that is no number
 abbrev pub read_costs : List (List ℕ) → Result (List ℕ) (List ℕ)
 read_costs [] = Ok []
-read_costs (w ∷ ws) = read_first w (number_of u32_max w) (read_costs ws)
+read_costs (w ∷ ws) = cost_before w (number_of u32_max w) (read_costs ws)
 
 -- what joining answered: the joined cost, or the word of the first number that is no cost
 abbrev pub joined_or_not_a_cost : Meaning → List (List ℕ) → Result ℕ ℕ → LineAnswer
@@ -67,8 +63,7 @@ costs_answer m ws (Err w) = unreadable w
 
 -- the letter is looked at first
 abbrev pub kind_answer : List ℕ → Option Meaning → List (List ℕ) → LineAnswer
-kind_answer letter None ws = unreadable letter
-kind_answer letter (Some m) ws = costs_answer m ws (read_costs ws)
+kind_answer letter kind ws = option_map_or (λ m. costs_answer m ws (read_costs ws)) kind (unreadable letter)
 
 -- what a line of these words comes to
 abbrev pub words_answer : List (List ℕ) → LineAnswer

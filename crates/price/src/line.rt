@@ -4,7 +4,8 @@ ghost use Rattle.std.specs.Option.{option_map};
 ghost use Rattle.costs.specs.Lists.{join_answer};
 ghost use Rattle.costs.specs.Names.{meaning_of};
 ghost use Rattle.price.specs.Unread.{FirstUnread};
-ghost use Rattle.price.specs.Lines.{without_return, kind_of, read_costs, answer_of, words_answer, line_answer, CostsReadBack};
+ghost use Rattle.std.specs.Str.Lines.{strip_carriage_return};
+ghost use Rattle.price.specs.Lines.{kind_of, read_costs, answer_of, words_answer, line_answer, CostsReadBack};
 
 use crate::answer::{LineAnswer, LineFault, Total};
 use costs::{KindName, Points, Rank, Severity, join_all};
@@ -13,7 +14,7 @@ use words::{Spacing, U32_MAX, number, pieces, word_theorems};
 
 // The line without a carriage return at its end.
 fn without_return(line: &[u8]) -> &[u8]
-    ensures { result.now ≡ without_return line.now }
+    ensures { result.now ≡ strip_carriage_return line.now }
 {
     line.strip_suffix(b"\r").unwrap_or(line)
 }

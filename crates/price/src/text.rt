@@ -1,7 +1,7 @@
 // What is printed for lines of input.
 ghost use Rattle.std.specs.Prelude.{◌≡◌, ◌++◌, IfOk, OnOk, IsSomeAnd};
 ghost use Rattle.price.specs.Lines.{answer_of};
-ghost use Rattle.price.specs.Report.{word_line, printed, report_of, LineByLine};
+ghost use Rattle.price.specs.Printed.{word_line, answer_printed, input_printed, LineByLine};
 
 use crate::answer::{LineAnswer, LineFault};
 use crate::line::answer;
@@ -22,7 +22,7 @@ fn push_word_line(out: &mut Vec<u8>, label: &[u8], word: &[u8]) -> Result<(), Al
 // Adds what is printed of an answer. A number that is no cost of the kind is refusal 10. (Where memory did not suffice,
 // nothing is printed, and that is the error of the whole.)
 fn push_answer(out: &mut Vec<u8>, answer: LineAnswer<'_>) -> Result<(), AllocError>
-    ensures { OnOk result (IsSomeAnd (answer_of answer.entry) (λ a. out.new.items ≡ out.old.items ++ printed a)) }
+    ensures { OnOk result (IsSomeAnd (answer_of answer.entry) (λ a. out.new.items ≡ out.old.items ++ answer_printed a)) }
 {
     match answer {
         Ok(None) => Ok(()),
@@ -38,8 +38,8 @@ fn push_answer(out: &mut Vec<u8>, answer: LineAnswer<'_>) -> Result<(), AllocErr
 
 // What is printed for the whole input.
 #[tactic(auto, using(crate::proofs::Printing::line_by_line))]
-pub fn report(heap: Global, input: &[u8]) -> Result<Vec<u8>, AllocError>
-    ensures made { IfOk result (λ v. v.items ≡ report_of input.now) }
+pub fn price_lines(heap: Global, input: &[u8]) -> Result<Vec<u8>, AllocError>
+    ensures made { IfOk result (λ v. v.items ≡ input_printed input.now) }
     ensures line_by_line { LineByLine }
 {
     word_theorems();

@@ -1,5 +1,6 @@
--- A line that says a call has no '>', so the call is said again where an answer stands behind it.
+-- A line that says a command has no '>', so the command is said again where an answer stands behind it.
 use Rattle.std.proofs.Common.{◌≡◌, ℕ, Bool, true, false, cond, List, [], ◌∷◌, ◌++◌, get_or, Some, None, Ok, Err, codes, Option, Result, sym, refl, ap, ◌∙◌, subst, ⊎_elim, arith}
+use Rattle.std.specs.Str.{all_ascii_digits}
 use Rattle.std.specs.List.{filter, onto_first, AllByRecursion}
 use Rattle.std.specs.Option.{option_map}
 use Rattle.std.proofs.lemmas.Option.{cond_some, option_and_then_some}
@@ -13,18 +14,18 @@ use Rattle.costs.specs.Names.{kind_by_letter}
 use Rattle.hex.specs.Hex.{hex_digit_value, is_hex_digit, decode_of}
 use Rattle.hex.proofs.HexLemmas.{decode_of-ok}
 use Rattle.words.specs.Hex.{then_digit, bytes_of, hex_on, hex_number_of}
-use Rattle.words.specs.Numbers.{all_digits, is_number, number_of, number_before, numbers_of}
+use Rattle.words.specs.Numbers.{is_number, number_of, number_before, numbers_of}
 use Rattle.words.specs.Pieces.{spacing, has_byte, pieces_of, NoSeparator}
 use Rattle.words.specs.Splits.{split_of}
 use Rattle.words.specs.Laws.{WordLaws}
 use Rattle.script.specs.Commands.{Command, kind}
-use Rattle.script.specs.declared.check.Run.{Run}
+use Rattle.script.specs.declared.check.Repeat.{Repeat}
 use Rattle.script.specs.declared.name.Name.{Name}
 use Rattle.script.specs.declared.name.Name.TheVariants as name
-use Rattle.script.specs.Forms.{alone_call, kind_call, two_wide, row_limits, row_from, row_call, line_limits, load_call, longest_list}
+use Rattle.script.specs.Forms.{alone_command, kind_command, two_wide, row_number_limits, row_from, row_command, line_number_limits, load_command, longest_list}
 use Rattle.script.specs.Names.{spells, name_of}
-use Rattle.script.specs.Runs.{run_of, run_from, split_run, run_before, runs_of, not_too_long, moves_of, check_call}
-use Rattle.script.specs.Script.{call, skip, call_of, call_parsed, name_parsed, words_parsed, is_comment, line_parsed, script_part_of}
+use Rattle.script.specs.Repeats.{repeat_of, repeat_from, split_repeat, repeat_before, repeats_of, not_too_long, moves_of, check_command}
+use Rattle.script.specs.Script.{command, skip, command_named, command_parsed, name_parsed, words_parsed, is_comment, line_parsed, script_part_of}
 use Rattle.script.proofs.Unreserved.{point, reserved, fewer, no_point, is_unreserved, unreserved_text, free_digits}
 use Rattle.script.proofs.Arrows.{line_answered}
 
@@ -58,7 +59,7 @@ number_free : (limit : ℕ) (w : List ℕ) (n : ℕ) → number_of limit w ≡ S
 unfolding number_of
 number_free limit w n e =
     let is = (cond_some (is_number limit w) _ n e).0 in
-    fewer reserved point no_point w (free_digits w (and_parts (all_digits w) _ (and_parts _ _ is).1).0)
+    fewer reserved point no_point w (free_digits w (and_parts (all_ascii_digits w) _ (and_parts _ _ is).1).0)
 
 before_some : (o : Option ℕ) (p : Option (List ℕ)) (ns : List ℕ) → number_before o p ≡ Some ns → (n : ℕ) × (o ≡ Some n) × (ks : List ℕ) × (p ≡ Some ks)
 before_some None p ns e = absurd cc
@@ -115,29 +116,29 @@ bytes_free w bs e =
     recursion_from_All (λ b. point b ≡ false) w (λ k d within. digit_free (get_or w k d) (digits k d within))
 
 -- the words of check
-run_some : (o p : Option ℕ) (r : Run) → run_from o p ≡ Some r → (n : ℕ) × (o ≡ Some n) × (k : ℕ) × (p ≡ Some k)
-run_some None p r e = absurd cc
-run_some (Some n) None r e = absurd cc
-run_some (Some n) (Some k) r e = (n, refl, k, refl)
+repeat_some : (o p : Option ℕ) (r : Repeat) → repeat_from o p ≡ Some r → (n : ℕ) × (o ≡ Some n) × (k : ℕ) × (p ≡ Some k)
+repeat_some None p r e = absurd cc
+repeat_some (Some n) None r e = absurd cc
+repeat_some (Some n) (Some k) r e = (n, refl, k, refl)
 
 module _ (laws : WordLaws) where
-  run_free : (w : List ℕ) (r : Run) → run_of w ≡ Some r → Free w
-  run_free w r e = by (split_of (codes "*") w) refl e
+  repeat_free : (w : List ℕ) (r : Repeat) → repeat_of w ≡ Some r → Free w
+  repeat_free w r e = by (split_of (codes "*") w) refl e
     where
-      by : (o : Option (List ℕ × List ℕ)) → split_of (codes "*") w ≡ o → split_run w o ≡ Some r → Free w
-      by None at h = let s = run_some _ _ r h in hex_number_free w s.0 s.1
+      by : (o : Option (List ℕ × List ℕ)) → split_of (codes "*") w ≡ o → split_repeat w o ≡ Some r → Free w
+      by None at h = let s = repeat_some _ _ r h in hex_number_free w s.0 s.1
       by (Some p) at h =
-          let s = run_some _ _ r h in
+          let s = repeat_some _ _ r h in
           subst Free (sym (laws.rejoins (codes "*") w p.0 p.1 at)) (laws.uncut point p.0 (codes "*" ++ p.1) (hex_number_free p.0 s.0 s.1) (refl, number_free _ p.1 s.2 s.3))
 
-runs_some : (o : Option Run) (p : Option (List ℕ)) (ms : List ℕ) → run_before o p ≡ Some ms → (r : Run) × (o ≡ Some r) × (ks : List ℕ) × (p ≡ Some ks)
-runs_some None p ms e = absurd cc
-runs_some (Some r) None ms e = absurd cc
-runs_some (Some r) (Some ks) ms e = (r, refl, ks, refl)
+repeats_some : (o : Option Repeat) (p : Option (List ℕ)) (ms : List ℕ) → repeat_before o p ≡ Some ms → (r : Repeat) × (o ≡ Some r) × (ks : List ℕ) × (p ≡ Some ks)
+repeats_some None p ms e = absurd cc
+repeats_some (Some r) None ms e = absurd cc
+repeats_some (Some r) (Some ks) ms e = (r, refl, ks, refl)
 
-runs_free : WordLaws → (ws : List (List ℕ)) (ms : List ℕ) → runs_of ws ≡ Some ms → AllFree ws
-runs_free laws [] ms e = tt
-runs_free laws (w ∷ ws) ms e = let s = runs_some (run_of w) (runs_of ws) ms e in (run_free laws w s.0 s.1, runs_free laws ws s.2 s.3)
+repeats_free : WordLaws → (ws : List (List ℕ)) (ms : List ℕ) → repeats_of ws ≡ Some ms → AllFree ws
+repeats_free laws [] ms e = tt
+repeats_free laws (w ∷ ws) ms e = let s = repeats_some (repeat_of w) (repeats_of ws) ms e in (repeat_free laws w s.0 s.1, repeats_free laws ws s.2 s.3)
 
 -- the words after a name
 mapped : {A B : Type 0} (f : A → B) (o : Option A) (y : B) → option_map f o ≡ Some y → (x : A) × (o ≡ Some x)
@@ -151,49 +152,49 @@ short_list (Some ks) ms e = (ks, refl)
 numbered_free : {B : Type 0} (f : List ℕ → B) (limits : List ℕ) (ws : List (List ℕ)) (y : B) → option_map f (numbers_of limits ws) ≡ Some y → AllFree ws
 numbered_free f limits ws y e = let n = mapped f (numbers_of limits ws) y e in numbers_free limits ws n.0 n.1
 
-alone_free : (c : Command) (ws : List (List ℕ)) (y : Command) → alone_call c ws ≡ Some y → AllFree ws
+alone_free : (c : Command) (ws : List (List ℕ)) (y : Command) → alone_command c ws ≡ Some y → AllFree ws
 alone_free c [] y e = tt
 alone_free c (w ∷ ws) y e = absurd cc
 
 letter_free : (l : ℕ) (y : Command) → option_map kind (kind_by_letter l) ≡ Some y → point l ≡ false
 letter_free l y e = read_free (λ (n : ℕ). option_map kind (kind_by_letter n)) l y refl e
 
-kind_free : (ws : List (List ℕ)) (y : Command) → kind_call ws ≡ Some y → AllFree ws
+kind_free : (ws : List (List ℕ)) (y : Command) → kind_command ws ≡ Some y → AllFree ws
 kind_free [] y e = absurd cc
 kind_free ([] ∷ []) y e = absurd cc
 kind_free ((l ∷ []) ∷ []) y e = ((letter_free l y e, tt), tt)
 kind_free ((l ∷ m ∷ ls) ∷ []) y e = absurd cc
 kind_free (w ∷ v ∷ ws) y e = absurd cc
 
-file_free : (ws : List (List ℕ)) (y : Command) → load_call ws ≡ Some y → AllFree ws
+file_free : (ws : List (List ℕ)) (y : Command) → load_command ws ≡ Some y → AllFree ws
 file_free [] y e = tt
 file_free (w ∷ []) y e = let b = mapped _ (bytes_of w) y e in (bytes_free w b.0 b.1, tt)
 file_free (w ∷ v ∷ ws) y e = absurd cc
 
-rows_free : (ws : List (List ℕ)) (y : Command) → row_call ws ≡ Some y → AllFree ws
-rows_free ws y e = option_and_then_some row_from (numbers_of row_limits ws) y e (λ ns is made. numbers_free row_limits ws ns is)
+rows_free : (ws : List (List ℕ)) (y : Command) → row_command ws ≡ Some y → AllFree ws
+rows_free ws y e = option_and_then_some row_from (numbers_of row_number_limits ws) y e (λ ns is made. numbers_free row_number_limits ws ns is)
 
-moves_free : WordLaws → (ws : List (List ℕ)) (y : Command) → check_call ws ≡ Some y → AllFree ws
+moves_free : WordLaws → (ws : List (List ℕ)) (y : Command) → check_command ws ≡ Some y → AllFree ws
 moves_free laws ws y e =
     let m = mapped _ (moves_of ws) y e in
-    let r = short_list (runs_of ws) m.0 m.1 in
-    runs_free laws ws r.0 r.1
+    let r = short_list (repeats_of ws) m.0 m.1 in
+    repeats_free laws ws r.0 r.1
 
-call_free : WordLaws → (n : Name) (ws : List (List ℕ)) (y : Command) → call_of n ws ≡ Some y → AllFree ws
-call_free laws name.Kind ws y e = kind_free ws y e
-call_free laws name.Size ws y e = numbered_free _ two_wide ws y e
-call_free laws name.Row ws y e = rows_free ws y e
-call_free laws name.Line ws y e = numbered_free _ line_limits ws y e
-call_free laws name.RepriceRow ws y e = numbered_free _ two_wide ws y e
-call_free laws name.RepriceLine ws y e = numbered_free _ two_wide ws y e
-call_free laws name.Clear ws y e = alone_free _ ws y e
-call_free laws name.Load ws y e = file_free ws y e
-call_free laws name.Settle ws y e = alone_free _ ws y e
-call_free laws name.Reopen ws y e = alone_free _ ws y e
-call_free laws name.Cost ws y e = alone_free _ ws y e
-call_free laws name.Path ws y e = numbered_free _ (longest_list ∷ []) ws y e
-call_free laws name.Between ws y e = numbered_free _ two_wide ws y e
-call_free laws name.Check ws y e = moves_free laws ws y e
+command_free : WordLaws → (n : Name) (ws : List (List ℕ)) (y : Command) → command_named n ws ≡ Some y → AllFree ws
+command_free laws name.Kind ws y e = kind_free ws y e
+command_free laws name.Size ws y e = numbered_free _ two_wide ws y e
+command_free laws name.Row ws y e = rows_free ws y e
+command_free laws name.Line ws y e = numbered_free _ line_number_limits ws y e
+command_free laws name.RepriceRow ws y e = numbered_free _ two_wide ws y e
+command_free laws name.RepriceLine ws y e = numbered_free _ two_wide ws y e
+command_free laws name.Clear ws y e = alone_free _ ws y e
+command_free laws name.Load ws y e = file_free ws y e
+command_free laws name.Settle ws y e = alone_free _ ws y e
+command_free laws name.Reopen ws y e = alone_free _ ws y e
+command_free laws name.Cost ws y e = alone_free _ ws y e
+command_free laws name.Path ws y e = numbered_free _ (longest_list ∷ []) ws y e
+command_free laws name.Between ws y e = numbered_free _ two_wide ws y e
+command_free laws name.Check ws y e = moves_free laws ws y e
 
 -- a name
 named_free : (text w : List ℕ) → Free text → (rest : Option Name) (n m : Name) → (rest ≡ Some m → Free w) → cond (spells text w) (Some n) rest ≡ Some m → Free w
@@ -224,25 +225,25 @@ name_free w n e =
     (named_free (codes "check") w (text_free (codes "check") refl) _ _ n
     (λ e. absurd cc)))))))))))))) e
 
--- the words of a line that says a call
+-- the words of a line that says a command
 module _ (laws : WordLaws) (w : List ℕ) (ws : List (List ℕ)) (c : Command) where
-  said_free : (n : Name) → name_of w ≡ Some n → (o : Option Command) → call_of n ws ≡ o → call_parsed o ≡ call c → AllFree (w ∷ ws)
+  said_free : (n : Name) → name_of w ≡ Some n → (o : Option Command) → command_named n ws ≡ o → command_parsed o ≡ command c → AllFree (w ∷ ws)
   said_free n named None at e = absurd cc
-  said_free n named (Some y) at e = (name_free w n named, call_free laws n ws y at)
+  said_free n named (Some y) at e = (name_free w n named, command_free laws n ws y at)
 
-  named_words : (o : Option Name) → name_of w ≡ o → name_parsed o ws ≡ call c → AllFree (w ∷ ws)
+  named_words : (o : Option Name) → name_of w ≡ o → name_parsed o ws ≡ command c → AllFree (w ∷ ws)
   named_words None named e = absurd cc
-  named_words (Some n) named e = said_free n named (call_of n ws) refl e
+  named_words (Some n) named e = said_free n named (command_named n ws) refl e
 
-  first_words : (b : Bool) → cond b skip (name_parsed (name_of w) ws) ≡ call c → AllFree (w ∷ ws)
+  first_words : (b : Bool) → cond b skip (name_parsed (name_of w) ws) ≡ command c → AllFree (w ∷ ws)
   first_words true e = absurd cc
   first_words false e = named_words (name_of w) refl e
 
-words_free : WordLaws → (ws : List (List ℕ)) (c : Command) → words_parsed ws ≡ call c → AllFree ws
+words_free : WordLaws → (ws : List (List ℕ)) (c : Command) → words_parsed ws ≡ command c → AllFree ws
 words_free laws [] c e = absurd cc
 words_free laws (w ∷ ws) c e = first_words laws w ws c (is_comment w) e
 
-pub said_again : WordLaws → (line answer : List ℕ) (c : Command) → line_parsed line ≡ call c → line_parsed (script_part_of line ++ (codes " -> " ++ answer)) ≡ call c
+pub said_again : WordLaws → (line answer : List ℕ) (c : Command) → line_parsed line ≡ command c → line_parsed (script_part_of line ++ (codes " -> " ++ answer)) ≡ command c
 said_again laws line answer c e =
     let part = script_part_of line in
     line_answered laws part answer (pieces_free part (words_free laws (pieces_of spacing part) c e)) ∙ e

@@ -1,9 +1,10 @@
--- Calls as lines of a script: how they are cut apart, and that nothing of a line is left away.
+-- Commands as lines of a script: how they are cut apart, and that nothing of a line is left away.
 use Rattle.std.proofs.Common.{◌≡◌, ℕ, ◌<◌, Bool, List, [], ◌∷◌, ◌++◌, map, length, reverse, codes, Option, sym, refl, ap, ◌∙◌, append_assoc, subst, length-append, arith}
+use Rattle.std.specs.Char.{is_newline}
 use Rattle.std.specs.List.{AllByRecursion}
 use Rattle.std.proofs.lemmas.List.{reverse-append, reverse-reverse, length-reverse}
 use Rattle.std.proofs.lemmas.Bool.{cond-false}
-use Rattle.words.specs.Pieces.{spacing, newline, pieces_of, NoSeparator}
+use Rattle.words.specs.Pieces.{spacing, pieces_of, NoSeparator}
 use Rattle.words.specs.Trims.{without_front, without_back, trimmed_of}
 use Rattle.words.specs.Laws.{WordLaws}
 use Rattle.script.specs.Commands.{Command}
@@ -31,7 +32,7 @@ module _ (laws : WordLaws) (sep : ℕ → Bool) where
       ∙ ap reverse (sym (reverse-append xs w))
       ∙ reverse-reverse (xs ++ w)
 
--- lines of calls
+-- lines of commands
 module _ (laws : WordLaws) where
   -- a line of unreserved words is not trimmed
   line_kept : (w : List ℕ) (ws : List (List ℕ)) → Unreserved w → AllByRecursion Unreserved ws → trimmed_of spacing (w ++ spaced ws) ≡ w ++ spaced ws
@@ -43,19 +44,19 @@ module _ (laws : WordLaws) where
       ∙ back_kept laws spacing e.front e.last e.free.0 (fewer reserved spacing no_spacing e.last e.free.1)
       ∙ sym e.is
 
-  -- the whole line of a call is the script
+  -- the whole line of a command is the script
   pub whole_line : (c : Command) → Fits c → script_part_of (written_line c) ≡ written_line c
   whole_line c fits =
       ap (λ (o : Option (List ℕ × List ℕ)). trimmed_of spacing (before_split (written_line c) o)) (no_arrow_split (written_line c) (unpointed laws c fits))
       ∙ line_kept (name_word c) (words_after c) (unreserved_name c) (unreserved_words laws c fits)
 
-  -- a script is cut into the lines of its calls
-  one_line : (c : Command) → Fits c → pieces_of newline (written_line c) ≡ written_line c ∷ []
-  one_line c fits = one_piece laws newline (written_line c) (let h = (unreserved_name c).0 in omega (arith, h, length-append (name_word c) (spaced (words_after c)))) (written_without laws newline no_newline refl c fits)
+  -- a script is cut into the lines of its commands
+  one_line : (c : Command) → Fits c → pieces_of is_newline (written_line c) ≡ written_line c ∷ []
+  one_line c fits = one_piece laws is_newline (written_line c) (let h = (unreserved_name c).0 in omega (arith, h, length-append (name_word c) (spaced (words_after c)))) (written_without laws is_newline no_newline refl c fits)
 
-  pub line_first : (c : Command) → Fits c → (rest : List ℕ) → pieces_of newline (written_line c ++ (codes "\n" ++ rest)) ≡ written_line c ∷ pieces_of newline rest
-  line_first c fits rest = (laws.cuts newline).apart (written_line c) 10 rest refl ∙ ap (λ ps. ps ++ pieces_of newline rest) (one_line c fits)
+  pub line_first : (c : Command) → Fits c → (rest : List ℕ) → pieces_of is_newline (written_line c ++ (codes "\n" ++ rest)) ≡ written_line c ∷ pieces_of is_newline rest
+  line_first c fits rest = (laws.cuts is_newline).apart (written_line c) 10 rest refl ∙ ap (λ ps. ps ++ pieces_of is_newline rest) (one_line c fits)
 
-  pub lines_cut : (cs : List Command) → AllByRecursion Fits cs → pieces_of newline (script_of cs) ≡ map written_line cs
-  lines_cut [] fits = (laws.cuts newline).none
-  lines_cut (c ∷ cs) fits = ap (pieces_of newline) (append_assoc (written_line c) (codes "\n") (script_of cs)) ∙ line_first c fits.0 (script_of cs) ∙ ap (λ ps. written_line c ∷ ps) (lines_cut cs fits.1)
+  pub lines_cut : (cs : List Command) → AllByRecursion Fits cs → pieces_of is_newline (script_of cs) ≡ map written_line cs
+  lines_cut [] fits = (laws.cuts is_newline).none
+  lines_cut (c ∷ cs) fits = ap (pieces_of is_newline) (append_assoc (written_line c) (codes "\n") (script_of cs)) ∙ line_first c fits.0 (script_of cs) ∙ ap (λ ps. written_line c ∷ ps) (lines_cut cs fits.1)

@@ -14,7 +14,7 @@ use Rattle.script.specs.declared.command.Command.TheVariants.{Kind, Size, AddRow
 use Rattle.script.specs.Commands.{Command, kind, size, row, line, reprice_row, reprice_line, clear, load, settle, reopen, cost, path, between, check, command_of, on_board}
 use Rattle.script.specs.Sessions.{without_address}
 use Rattle.script.specs.Telling.{file_of, told_text}
-use Rattle.script.specs.Printing.{SessionState, made_text, board_text, board_after, call_text, call_after}
+use Rattle.script.specs.Printing.{SessionState, made_text, board_text, board_after, command_text, command_after}
 
 -- where a call's bytes or moves lie changes nothing
 same_text : (m : Meaning) (s : State) (log : List Record) (x : Call) (buffer : List ℕ) → told_text (step_answer m s log x buffer) (file_of x) (step_buffer m s log x buffer) ≡ told_text (step_answer m s log (without_address x) buffer) (file_of (without_address x)) (step_buffer m s log (without_address x) buffer)
@@ -59,22 +59,22 @@ written_over n xs ys h k =
     ∙ ap (take n) (append-nil xs)
     ∙ take_all n xs (omega (arith, h, k))
 
--- a call that makes one on a board
-pub board_call : (s : Option SessionState) (c : Command) (x : Call) → on_board c ≡ Some x → (call_text s c ≡ codes " -> " ++ board_text s c) × (call_after s c ≡ board_after s c)
-board_call s (kind k) x e = absurd cc
-board_call s (size a b) x e = (refl, refl)
-board_call s (row r) x e = (refl, refl)
-board_call s (line l) x e = (refl, refl)
-board_call s (reprice_row i k) x e = (refl, refl)
-board_call s (reprice_line i k) x e = (refl, refl)
-board_call s clear x e = (refl, refl)
-board_call s (load bs) x e = (refl, refl)
-board_call s settle x e = (refl, refl)
-board_call s reopen x e = (refl, refl)
-board_call s cost x e = (refl, refl)
-board_call s (path n) x e = (refl, refl)
-board_call s (between p q) x e = (refl, refl)
-board_call s (check xs) x e = (refl, refl)
+-- a command that makes a call on a board
+pub board_command : (s : Option SessionState) (c : Command) (x : Call) → on_board c ≡ Some x → (command_text s c ≡ codes " -> " ++ board_text s c) × (command_after s c ≡ board_after s c)
+board_command s (kind k) x e = absurd cc
+board_command s (size a b) x e = (refl, refl)
+board_command s (row r) x e = (refl, refl)
+board_command s (line l) x e = (refl, refl)
+board_command s (reprice_row i k) x e = (refl, refl)
+board_command s (reprice_line i k) x e = (refl, refl)
+board_command s clear x e = (refl, refl)
+board_command s (load bs) x e = (refl, refl)
+board_command s settle x e = (refl, refl)
+board_command s reopen x e = (refl, refl)
+board_command s cost x e = (refl, refl)
+board_command s (path n) x e = (refl, refl)
+board_command s (between p q) x e = (refl, refl)
+board_command s (check xs) x e = (refl, refl)
 
 -- a command that names no kind makes a call
 pub made_call : (c : VecCommand) → ((k : KindName) → c ≡ Kind k → ⊥) → (x : Call) × (on_board (command_of c) ≡ Some x)

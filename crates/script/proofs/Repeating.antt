@@ -1,10 +1,10 @@
--- Runs added one after another.
+-- Repeated moves added one after another.
 use Rattle.std.proofs.Common.{◌≡◌, ℕ, ◌+◌, ◌-◌, ◌<◌, List, [], ◌++◌, length, get_or, take, drop, replicate, Some, None, Option, Bor, sym, refl, ap, ◌∙◌, arith, map, ◌∷◌}
 use Rattle.std.proofs.lemmas.List.{append_assoc, length-append, length-map, length-replicate, get_or-map, drop_more, take_all}
 use Rattle.std.proofs.lemmas.Bool.{cond-false, lt-leb}
 use Rattle.script.specs.Forms.{longest_list}
-use Rattle.script.specs.Runs.{run_of, run_moves, run_before, runs_of, not_too_long}
-use Rattle.script.specs.declared.check.Run.{Run}
+use Rattle.script.specs.Repeats.{repeat_of, repeat_moves, repeat_before, repeats_of, not_too_long}
+use Rattle.script.specs.declared.check.Repeat.{Repeat}
 
 -- a list filled up to a greater length
 pub filled : (xs : List ℕ) (n m k x : ℕ) → n ≡ length xs + k → m ≡ length xs → take n xs ++ replicate (n - m) x ≡ xs ++ replicate k x
@@ -16,9 +16,9 @@ abbrev pub after : List ℕ → Option (List ℕ) → Option (List ℕ)
 after xs None = None
 after xs (Some ys) = Some (xs ++ ys)
 
-one_run : (xs : List ℕ) (r : Run) (o : Option (List ℕ)) → after (xs ++ run_moves r) o ≡ after xs (run_before (Some r) o)
-one_run xs r None = refl
-one_run xs r (Some ys) = ap Some (append_assoc xs (run_moves r) ys)
+one_repeat : (xs : List ℕ) (r : Repeat) (o : Option (List ℕ)) → after (xs ++ repeat_moves r) o ≡ after xs (repeat_before (Some r) o)
+one_repeat xs r None = refl
+one_repeat xs r (Some ys) = ap Some (append_assoc xs (repeat_moves r) ys)
 
 too_long : (xs : List ℕ) (o : Option (List ℕ)) → longest_list < length xs → not_too_long (after xs o) ≡ None
 too_long xs None long = refl
@@ -34,15 +34,15 @@ module _ (words : List (Bor (List ℕ))) (i : ℕ) (within : i < length words) (
       drop_more (map (λ x. x.now) words) i [] (omega (arith, within, length-map words (λ x. x.now)))
       ∙ ap (λ w. w ∷ left (i + 1)) (get_or-map (λ x. x.now) words i d [] within)
 
-  pub run_next : (r : Run) → run_of (get_or words i d).now ≡ Some r → not_too_long (after (xs ++ run_moves r) (runs_of (left (i + 1)))) ≡ not_too_long (after xs (runs_of (left i)))
-  run_next r e =
-      ap not_too_long (one_run xs r (runs_of (left (i + 1))) ∙ ap (λ o. after xs (run_before o (runs_of (left (i + 1))))) (sym e))
-      ∙ sym (ap (λ vs. not_too_long (after xs (runs_of vs))) here)
+  pub repeat_next : (r : Repeat) → repeat_of (get_or words i d).now ≡ Some r → not_too_long (after (xs ++ repeat_moves r) (repeats_of (left (i + 1)))) ≡ not_too_long (after xs (repeats_of (left i)))
+  repeat_next r e =
+      ap not_too_long (one_repeat xs r (repeats_of (left (i + 1))) ∙ ap (λ o. after xs (repeat_before o (repeats_of (left (i + 1))))) (sym e))
+      ∙ sym (ap (λ vs. not_too_long (after xs (repeats_of vs))) here)
 
-  pub run_stop : run_of (get_or words i d).now ≡ None → not_too_long (after xs (runs_of (left i))) ≡ None
-  run_stop e = ap (λ vs. not_too_long (after xs (runs_of vs))) here ∙ ap (λ o. not_too_long (after xs (run_before o (runs_of (left (i + 1)))))) e
+  pub repeat_stop : repeat_of (get_or words i d).now ≡ None → not_too_long (after xs (repeats_of (left i))) ≡ None
+  repeat_stop e = ap (λ vs. not_too_long (after xs (repeats_of vs))) here ∙ ap (λ o. not_too_long (after xs (repeat_before o (repeats_of (left (i + 1)))))) e
 
-  pub run_too_long : (r : Run) → run_of (get_or words i d).now ≡ Some r → longest_list < length xs + r.times → not_too_long (after xs (runs_of (left i))) ≡ None
-  run_too_long r e long =
-      sym (run_next r e)
-      ∙ too_long (xs ++ run_moves r) (runs_of (left (i + 1))) (omega (arith, long, length-append xs (run_moves r), length-replicate r.times r.number))
+  pub repeat_too_long : (r : Repeat) → repeat_of (get_or words i d).now ≡ Some r → longest_list < length xs + r.times → not_too_long (after xs (repeats_of (left i))) ≡ None
+  repeat_too_long r e long =
+      sym (repeat_next r e)
+      ∙ too_long (xs ++ repeat_moves r) (repeats_of (left (i + 1))) (omega (arith, long, length-append xs (repeat_moves r), length-replicate r.times r.number))

@@ -1,5 +1,7 @@
 -- Words with no spacing, no star and no '>' in them.
 use Rattle.std.proofs.Common.{◌≡◌, ℕ, ◌/◌, ◌%◌, ◌^◌, ◌<◌, Bool, true, false, not, ◌&&◌, ◌||◌, eqb, ltb, List, [], ◌∷◌, ◌++◌, length, Some, decimal, sym, refl, ap, ◌∙◌, append_assoc, append-nil, arith}
+use Rattle.std.specs.Str.{all_ascii_digits}
+use Rattle.std.specs.Char.{is_ascii_digit, is_newline}
 use Rattle.std.specs.List.{slice_index, AllByRecursion}
 use Rattle.std.proofs.lemmas.Fmt.{decimal_nonempty}
 use Rattle.std.proofs.lemmas.Bool.{and_parts, or_parts, not-true, ltb-true}
@@ -7,8 +9,7 @@ use Rattle.std.proofs.lemmas.Bool.Decides.{nat_tests}
 use Rattle.hex.specs.Hex.{hex_digit_value, lower_digits, encode_with}
 use Rattle.hex.proofs.HexLemmas.{length-encode_with, IsDigits-lower_digits}
 use Rattle.words.specs.Hex.{written_bytes, written_u16}
-use Rattle.words.specs.Numbers.{is_digit, all_digits}
-use Rattle.words.specs.Pieces.{spacing, newline, pieces_of, NoSeparator}
+use Rattle.words.specs.Pieces.{spacing, pieces_of, NoSeparator}
 use Rattle.words.specs.Laws.{WordLaws}
 use Rattle.costs.specs.Names.{letter_of}
 use Rattle.costs.specs.declared.kind_name.KindName.{KindName}
@@ -23,7 +24,7 @@ abbrev pub star : ℕ → Bool
 star b = eqb b 42
 
 abbrev pub reserved : ℕ → Bool
-reserved b = spacing b || (newline b || (point b || star b))
+reserved b = spacing b || (is_newline b || (point b || star b))
 
 -- a word without them
 abbrev pub Unreserved : List ℕ → Type 0
@@ -37,11 +38,11 @@ fewer sep also rules (b ∷ bs) uncut = (rules b uncut.0, fewer sep also rules b
 pub no_spacing : (b : ℕ) → reserved b ≡ false → spacing b ≡ false
 no_spacing b free = (or_parts (spacing b) _ free).0
 
-pub no_newline : (b : ℕ) → reserved b ≡ false → newline b ≡ false
-no_newline b free = (or_parts (newline b) _ (or_parts (spacing b) _ free).1).0
+pub no_newline : (b : ℕ) → reserved b ≡ false → is_newline b ≡ false
+no_newline b free = (or_parts (is_newline b) _ (or_parts (spacing b) _ free).1).0
 
 points_and_stars : (b : ℕ) → reserved b ≡ false → (point b ≡ false) × (star b ≡ false)
-points_and_stars b free = or_parts (point b) (star b) (or_parts (newline b) _ (or_parts (spacing b) _ free).1).1
+points_and_stars b free = or_parts (point b) (star b) (or_parts (is_newline b) _ (or_parts (spacing b) _ free).1).1
 
 pub no_point : (b : ℕ) → reserved b ≡ false → point b ≡ false
 no_point b free = (points_and_stars b free).0
@@ -69,13 +70,13 @@ unreserved_text w free =
     (ltb-true 0 (length w) both.0, free_text w both.1)
 
 -- decimal digits
-free_digit : (b : ℕ) → is_digit b ≡ true → reserved b ≡ false
+free_digit : (b : ℕ) → is_ascii_digit b ≡ true → reserved b ≡ false
 free_digit b digit = grind (arith, nat_tests)
 
-pub free_digits : (ds : List ℕ) → all_digits ds ≡ true → NoSeparator reserved ds
+pub free_digits : (ds : List ℕ) → all_ascii_digits ds ≡ true → NoSeparator reserved ds
 free_digits [] digits = tt
 free_digits (d ∷ ds) digits =
-    let both = and_parts (is_digit d) (all_digits ds) digits in
+    let both = and_parts (is_ascii_digit d) (all_ascii_digits ds) digits in
     (free_digit d both.0, free_digits ds both.1)
 
 module _ (laws : WordLaws) where

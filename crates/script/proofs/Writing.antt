@@ -1,7 +1,7 @@
--- Written calls read back.
+-- Written commands read back.
 use Rattle.std.proofs.Common.{◌≡◌, ℕ, ◌^◌, ◌<◌, ◌≤◌, Bool, true, false, List, [], ◌∷◌, map, length, get_or, Some, decimal, refl, ap, ◌∙◌, arith}
 use Rattle.std.specs.Option.{option_map, option_and_then}
-use Rattle.std.specs.List.{AllByRecursion}
+use Rattle.std.specs.List.{AllByRecursion, AllZip}
 use Rattle.std.proofs.lemmas.Bool.{cond-true, le-leb}
 use Rattle.costs.specs.Names.{letter_of}
 use Rattle.costs.specs.declared.kind_name.KindName.{KindName}
@@ -16,14 +16,18 @@ use Rattle.words.specs.Numbers.{number_before, numbers_of}
 use Rattle.words.specs.Pieces.{spacing, pieces_of, NoSeparator}
 use Rattle.words.specs.Laws.{WordLaws}
 use Rattle.script.specs.Commands.{Command, kind, size, row, line, reprice_row, reprice_line, clear, load, settle, reopen, cost, path, between, check}
-use Rattle.script.specs.Forms.{longest_list, two_wide, row_limits, line_limits, kind_word, two_call, row_from, line_from, load_call}
+use Rattle.script.specs.Forms.{longest_list, two_wide, row_number_limits, line_number_limits, kind_word, two_numbers_command, row_from, line_from, load_command}
 use Rattle.script.specs.Names.{spells}
-use Rattle.script.specs.Runs.{run_of, run_from, split_run, run_before, runs_of, not_too_long, check_call}
-use Rattle.script.specs.Script.{call, call_parsed, words_parsed}
-use Rattle.script.specs.Written.{file_words, row_numbers, line_numbers, name_word, words_after, written_line, UpTo, Fits, CallsReadBack}
+use Rattle.script.specs.Repeats.{repeat_of, repeat_from, split_repeat, repeat_before, repeats_of, not_too_long, check_command}
+use Rattle.script.specs.Script.{command, command_parsed, words_parsed}
+use Rattle.script.specs.Written.{file_words, row_numbers, line_numbers, name_word, words_after, written_line, Fits, CommandsReadBack}
 use Rattle.script.proofs.Unreserved.{Unreserved, is_unreserved, reserved, point, star, fewer, no_star, unreserved_decimal, unreserved_bytes, unreserved_u16, unreserved_text, unreserved_letter, no_point, spaced_pieces, line_without}
 use Rattle.script.proofs.Again.{said_again}
 use Rattle.script.proofs.Arrows.{line_alone, line_answered, no_star_split}
+
+-- as many numbers as limits, each at most its limit: of lists that are written out, what `Within` says
+abbrev UpTo : List ℕ → List ℕ → Type 0
+UpTo limits ns = AllZip (λ limit n. n ≤ limit) limits ns
 
 -- numbers and moves
 module _ (laws : WordLaws) where
@@ -43,15 +47,15 @@ module _ (laws : WordLaws) where
   unreserved_decimals (m ∷ ms) (n ∷ ns) wide fits = (unreserved_decimal laws n (omega (arith, wide.0, fits.0)), unreserved_decimals ms ns wide.1 fits.1)
 
   -- packed moves
-  run_back : (n : ℕ) → n < 2 ^ 16 → run_of (written_u16 n) ≡ Some (record { number = n; times = 1 })
-  run_back n small =
-      ap (split_run (written_u16 n)) (no_star_split (written_u16 n) (fewer reserved star no_star (written_u16 n) (unreserved_u16 n small).1))
-      ∙ ap (λ o. run_from o (Some 1)) (laws.hex_back n small)
+  repeat_back : (n : ℕ) → n < 2 ^ 16 → repeat_of (written_u16 n) ≡ Some (record { number = n; times = 1 })
+  repeat_back n small =
+      ap (split_repeat (written_u16 n)) (no_star_split (written_u16 n) (fewer reserved star no_star (written_u16 n) (unreserved_u16 n small).1))
+      ∙ ap (λ o. repeat_from o (Some 1)) (laws.hex_back n small)
 
-  runs_back : (ms : List ℕ) → AllByRecursion (λ m. m < 2 ^ 16) ms → runs_of (map written_u16 ms) ≡ Some ms
-  runs_back [] small = refl
-  runs_back (m ∷ ms) small =
-      ap (λ o. run_before o (runs_of (map written_u16 ms))) (run_back m small.0) ∙ ap (run_before (Some (record { number = m; times = 1 }))) (runs_back ms small.1)
+  repeats_back : (ms : List ℕ) → AllByRecursion (λ m. m < 2 ^ 16) ms → repeats_of (map written_u16 ms) ≡ Some ms
+  repeats_back [] small = refl
+  repeats_back (m ∷ ms) small =
+      ap (λ o. repeat_before o (repeats_of (map written_u16 ms))) (repeat_back m small.0) ∙ ap (repeat_before (Some (record { number = m; times = 1 }))) (repeats_back ms small.1)
 
   unreserved_moves : (ms : List ℕ) → AllByRecursion (λ m. m < 2 ^ 16) ms → AllByRecursion Unreserved (map written_u16 ms)
   unreserved_moves [] small = tt
@@ -61,16 +65,16 @@ module _ (laws : WordLaws) where
 two_wide_fit : AllByRecursion (λ m. m < 2 ^ 64) two_wide
 two_wide_fit = (omega arith, (omega arith, tt))
 
-row_limits_fit : AllByRecursion (λ m. m < 2 ^ 64) row_limits
-row_limits_fit = (omega arith, (omega arith, (omega arith, (omega arith, (omega arith, (omega arith, tt))))))
+row_number_limits_fit : AllByRecursion (λ m. m < 2 ^ 64) row_number_limits
+row_number_limits_fit = (omega arith, (omega arith, (omega arith, (omega arith, (omega arith, (omega arith, tt))))))
 
-line_limits_fit : AllByRecursion (λ m. m < 2 ^ 64) line_limits
-line_limits_fit = (omega arith, (omega arith, (omega arith, (omega arith, tt))))
+line_number_limits_fit : AllByRecursion (λ m. m < 2 ^ 64) line_number_limits
+line_number_limits_fit = (omega arith, (omega arith, (omega arith, (omega arith, tt))))
 
 longest_fits : AllByRecursion (λ m. m < 2 ^ 64) (longest_list ∷ [])
 longest_fits = (omega arith, tt)
 
--- the words of a call are unreserved
+-- the words of a command are unreserved
 unreserved_names : (c : Command) → is_unreserved (name_word c) ≡ true
 unreserved_names (kind k) = refl
 unreserved_names (size m t) = refl
@@ -98,8 +102,8 @@ module _ (laws : WordLaws) where
   pub unreserved_words : (c : Command) → Fits c → AllByRecursion Unreserved (words_after c)
   unreserved_words (kind k) fits = (unreserved_letter k, tt)
   unreserved_words (size m t) fits = unreserved_decimals laws two_wide (m ∷ t ∷ []) two_wide_fit fits
-  unreserved_words (row r) fits = unreserved_decimals laws row_limits (row_numbers r) row_limits_fit fits
-  unreserved_words (line l) fits = unreserved_decimals laws line_limits (line_numbers l) line_limits_fit fits
+  unreserved_words (row r) fits = unreserved_decimals laws row_number_limits (row_numbers r) row_number_limits_fit fits
+  unreserved_words (line l) fits = unreserved_decimals laws line_number_limits (line_numbers l) line_number_limits_fit fits
   unreserved_words (reprice_row i c) fits = unreserved_decimals laws two_wide (i ∷ c ∷ []) two_wide_fit fits
   unreserved_words (reprice_line i c) fits = unreserved_decimals laws two_wide (i ∷ c ∷ []) two_wide_fit fits
   unreserved_words clear fits = tt
@@ -111,7 +115,7 @@ module _ (laws : WordLaws) where
   unreserved_words (between s q) fits = unreserved_decimals laws two_wide (s ∷ q ∷ []) two_wide_fit fits
   unreserved_words (check ms) fits = unreserved_moves laws ms fits.0
 
--- they say the call
+-- they say the command
 says_kind : (k : KindName) → kind_word (letter_of k ∷ []) ≡ Some (kind k)
 says_kind Points = refl
 says_kind Severity = refl
@@ -128,36 +132,36 @@ abbrev with_kind : Row → RowKind → Command
 with_kind r k = row record { kind = k; from = r.from; to = r.to; label = r.label; action = r.action; cost = r.cost }
 
 module _ (laws : WordLaws) where
-  says_two : (make : ℕ → ℕ → Command) (a b : ℕ) → UpTo two_wide (a ∷ b ∷ []) → two_call make (map decimal (a ∷ b ∷ [])) ≡ Some (make a b)
+  says_two : (make : ℕ → ℕ → Command) (a b : ℕ) → UpTo two_wide (a ∷ b ∷ []) → two_numbers_command make (map decimal (a ∷ b ∷ [])) ≡ Some (make a b)
   says_two make a b fits = ap (option_map (λ ns. make (get_or ns 0 0) (get_or ns 1 0))) (numbers_back laws two_wide (a ∷ b ∷ []) two_wide_fit fits)
 
-  says_file : (bs : List ℕ) → AllByRecursion (λ b. b < 2 ^ 8) bs → load_call (file_words bs) ≡ Some (load bs)
+  says_file : (bs : List ℕ) → AllByRecursion (λ b. b < 2 ^ 8) bs → load_command (file_words bs) ≡ Some (load bs)
   unfolding decode_pairs
   says_file [] small = refl
   says_file (b ∷ bs) small = ap (option_map load) (laws.bytes_back (b ∷ bs) small)
 
-  says_moves : (ms : List ℕ) → AllByRecursion (λ m. m < 2 ^ 16) ms → length ms ≤ longest_list → check_call (map written_u16 ms) ≡ Some (check ms)
+  says_moves : (ms : List ℕ) → AllByRecursion (λ m. m < 2 ^ 16) ms → length ms ≤ longest_list → check_command (map written_u16 ms) ≡ Some (check ms)
   says_moves ms small short =
-      ap (λ o. option_map check (not_too_long o)) (runs_back laws ms small) ∙ ap (option_map check) (cond-true _ _ _ (le-leb (length ms) longest_list short))
+      ap (λ o. option_map check (not_too_long o)) (repeats_back laws ms small) ∙ ap (option_map check) (cond-true _ _ _ (le-leb (length ms) longest_list short))
 
-  says : (c : Command) → Fits c → words_parsed (name_word c ∷ words_after c) ≡ call c
+  says : (c : Command) → Fits c → words_parsed (name_word c ∷ words_after c) ≡ command c
   unfolding spells
-  says (kind k) fits = ap call_parsed (says_kind k)
-  says (size m t) fits = ap call_parsed (says_two size m t fits)
-  says (row r) fits = ap (λ o. call_parsed (option_and_then row_from o)) (numbers_back laws row_limits (row_numbers r) row_limits_fit fits) ∙ ap (λ o. call_parsed (option_map (with_kind r) o)) (kind_back r.kind)
-  says (line l) fits = ap (λ o. call_parsed (option_map line_from o)) (numbers_back laws line_limits (line_numbers l) line_limits_fit fits)
-  says (reprice_row i c) fits = ap call_parsed (says_two reprice_row i c fits)
-  says (reprice_line i c) fits = ap call_parsed (says_two reprice_line i c fits)
+  says (kind k) fits = ap command_parsed (says_kind k)
+  says (size m t) fits = ap command_parsed (says_two size m t fits)
+  says (row r) fits = ap (λ o. command_parsed (option_and_then row_from o)) (numbers_back laws row_number_limits (row_numbers r) row_number_limits_fit fits) ∙ ap (λ o. command_parsed (option_map (with_kind r) o)) (kind_back r.kind)
+  says (line l) fits = ap (λ o. command_parsed (option_map line_from o)) (numbers_back laws line_number_limits (line_numbers l) line_number_limits_fit fits)
+  says (reprice_row i c) fits = ap command_parsed (says_two reprice_row i c fits)
+  says (reprice_line i c) fits = ap command_parsed (says_two reprice_line i c fits)
   says clear fits = refl
-  says (load bs) fits = ap call_parsed (says_file bs fits)
+  says (load bs) fits = ap command_parsed (says_file bs fits)
   says settle fits = refl
   says reopen fits = refl
   says cost fits = refl
-  says (path n) fits = ap (λ o. call_parsed (option_map (λ ns. path (get_or ns 0 0)) o)) (numbers_back laws (longest_list ∷ []) (n ∷ []) longest_fits (fits, tt))
-  says (between s q) fits = ap call_parsed (says_two between s q fits)
-  says (check ms) fits = ap call_parsed (says_moves ms fits.0 fits.1)
+  says (path n) fits = ap (λ o. command_parsed (option_map (λ ns. path (get_or ns 0 0)) o)) (numbers_back laws (longest_list ∷ []) (n ∷ []) longest_fits (fits, tt))
+  says (between s q) fits = ap command_parsed (says_two between s q fits)
+  says (check ms) fits = ap command_parsed (says_moves ms fits.0 fits.1)
 
-  -- no byte of a written call is one that no word has, but for a space
+  -- no byte of a written command is one that no word has, but for a space
   pub written_without : (also : ℕ → Bool) → ((b : ℕ) → reserved b ≡ false → also b ≡ false) → also 32 ≡ false → (c : Command) → Fits c → NoSeparator also (written_line c)
   written_without also rules space c fits = line_without laws also rules space (name_word c) (words_after c) (unreserved_name c) (unreserved_words laws c fits)
 
@@ -167,7 +171,7 @@ module _ (laws : WordLaws) where
   pieces : (c : Command) → Fits c → pieces_of spacing (written_line c) ≡ name_word c ∷ words_after c
   pieces c fits = spaced_pieces laws (name_word c) (words_after c) (unreserved_name c) (unreserved_words laws c fits)
 
-  pub reads_written : CallsReadBack
+  pub reads_written : CommandsReadBack
   reads_written = record {
     alone = λ c fits. line_alone laws (written_line c) (unpointed c fits) ∙ ap words_parsed (pieces c fits) ∙ says c fits;
     answered = λ c fits answer. line_answered laws (written_line c) answer (unpointed c fits) ∙ ap words_parsed (pieces c fits) ∙ says c fits;

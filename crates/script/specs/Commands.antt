@@ -1,4 +1,4 @@
--- The calls that a script makes.
+-- The commands of a script, and the calls on a board that they make.
 use Rattle.std.specs.Prelude.{ℕ, List, Some, None, Option, vec_items}
 use Rattle.std.specs.Borrow.{Bor}
 use Rattle.costs.specs.declared.kind_name.KindName.{KindName}
@@ -9,7 +9,7 @@ use Rattle.file.specs.declared.call.Call.TheVariants as board
 use Rattle.script.specs.declared.command.Command.{Command as VecCommand}
 use Rattle.script.specs.declared.command.Command.TheVariants.{Kind, Size, AddRow, AddLine, RepriceRow, RepriceLine, ClearLines, Load, Settle, Reopen, Cost, Path, Between, Check}
 
--- A call, with lists in place of the code's vectors.
+-- A command, with lists in place of the code's vectors.
 pub data Command : Type 0 where
   -- a new board of this kind
   kind : KindName → Command
@@ -33,7 +33,7 @@ pub data Command : Type 0 where
   -- a list of packed moves
   check : List ℕ → Command
 
--- the call that a command is
+-- the same of the code's command
 abbrev pub command_of : VecCommand → Command
 command_of (Kind k) = kind k
 command_of (Size m t) = size m t
@@ -54,7 +54,7 @@ command_of (Check xs) = check (vec_items xs)
 abbrev pub behind : {A : Type 0} → List A → Bor (List A)
 behind xs = record { ref_ptr = (0, 0); now = xs }
 
--- the call on a board that a script's call makes; naming a kind makes none
+-- the call on a board that a command makes; naming a kind makes none
 abbrev pub on_board : Command → Option Call
 on_board (kind k) = None
 on_board (size m t) = Some (board.Size m t)

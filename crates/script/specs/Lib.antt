@@ -1,11 +1,11 @@
--- What a reader must believe: the calls of a script, how each is written as a line, and how lines are read (that a written call
--- is read back says `CallsReadBack` of Written);
+-- What a reader must believe: the commands of a script, how each is written as a line, and how lines are read (that a written
+-- command is read back says `CommandsReadBack` of Written);
 pub mod Commands
 pub mod Names
 pub mod Written
 pub mod Errors
 pub mod Forms
-pub mod Runs
+pub mod Repeats
 pub mod Script
 -- what is printed of an answer and of a script.
 pub mod Telling

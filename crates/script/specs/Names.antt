@@ -1,4 +1,4 @@
--- The names of calls.
+-- The names of commands.
 use Rattle.std.specs.Prelude.{ℕ, Bool, cond, List, Some, None, codes, Option}
 use Rattle.std.specs.Str.{bytes_eq}
 use Rattle.script.specs.declared.name.Name.{Name}
@@ -8,7 +8,7 @@ use Rattle.script.specs.declared.name.Name.TheVariants.{Kind, Size, Row, Line, R
 unfoldable pub spells : List ℕ → List ℕ → Bool
 spells text word = bytes_eq word text
 
--- the call that the word names
+-- the command that the word names
 abbrev pub name_of : List ℕ → Option Name
 name_of w =
     cond (spells (codes "kind") w) (Some Kind)

@@ -7,7 +7,7 @@ use Rattle.script.specs.declared.running.Session.TheVariants as session
 use Rattle.script.specs.Commands.{command_of, behind}
 use Rattle.script.specs.declared.running.Said.{Said}
 use Rattle.script.specs.declared.running.Said.TheVariants.{Nothing, Command as SaidCommand, Unreadable as NotReadable}
-use Rattle.script.specs.Script.{LineParsed, call, skip, unreadable}
+use Rattle.script.specs.Script.{LineParsed, command, skip, unreadable}
 use Rattle.file.specs.declared.call.Call.{Call}
 use Rattle.file.specs.declared.call.Call.TheVariants as board
 
@@ -21,7 +21,7 @@ session_state (session.Rank b) = record { kind = name.Rank; state = state_of b }
 abbrev pub said : Said → LineParsed
 said Nothing = skip
 said NotReadable = unreadable
-said (SaidCommand c) = call (command_of c)
+said (SaidCommand c) = command (command_of c)
 
 -- a call on a board with the address of its bytes or moves set to 0, so that calls of the same contents are the same
 abbrev pub without_address : Call → Call

@@ -3,8 +3,8 @@ use Rattle.std.specs.Prelude.{◌≡◌, ℕ, List, [], ◌∷◌, ◌++◌, rep
 use Rattle.std.specs.List.{flat_map}
 use Rattle.script.specs.Printing.{printed}
 
--- a comment; a row that is added and one that is refused; a question to a draft; a line that is no call; an empty line; a
--- call with spacing before it and another answer behind it; the cheapest reading; a check that fails
+-- a comment; a row that is added and one that is refused; a question to a draft; a line that is no command; an empty line;
+-- a command with spacing before it and another answer behind it; the cheapest reading; a check that fails
 abbrev pub small_script : List ℕ
 small_script =
     codes
@@ -15,7 +15,7 @@ small_answers =
     codes
     "kind P\nrow 3 0 0 0 0 7 -> 0\nrow 3 0 1 0 0 7 -> no 4\ncost -> not taken\nrows 1 -> unreadable\nsettle -> ok\ncost -> 7 1\npath 2 -> 1 0000 aaaa\ncheck 0000 0000 -> no 16 at 1\nreopen -> ok\n"
 
--- Every call, with what is printed behind it. In severity: a plain row with a line and an end row, repriced, cost 6. A path
+-- Every command, with what is printed behind it. In severity: a plain row with a line and an end row, repriced, cost 6. A path
 -- that does not fit, one into the longest buffer that is printed and one into a longer one. In points: no file; a file whose
 -- note 'hi' stands at 16; a file with one byte behind its header, which leaves a new board.
 abbrev pub each_call : List (List ℕ × List ℕ)

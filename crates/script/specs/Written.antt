@@ -1,14 +1,15 @@
--- Calls as lines: how each is written, and that it reads back.
+-- Commands as lines: how each is written, and that it reads back.
 use Rattle.std.specs.Prelude.{◌≡◌, ℕ, ◌^◌, ◌<◌, ◌≤◌, List, [], ◌∷◌, ◌++◌, map, length, codes, decimal}
-use Rattle.std.specs.List.{flat_map, AllByRecursion, AllZip}
+use Rattle.std.specs.List.{flat_map, AllByRecursion}
 use Rattle.costs.specs.Names.{letter_of}
 use Rattle.board.specs.declared.row.Row.{Row}
 use Rattle.board.specs.declared.row.Line.{Line}
 use Rattle.board.specs.Rows.{kind_number}
 use Rattle.words.specs.Hex.{written_bytes, written_u16}
+use Rattle.words.specs.Numbers.{Within}
 use Rattle.script.specs.Commands.{Command, kind, size, row, line, reprice_row, reprice_line, clear, load, settle, reopen, cost, path, between, check}
-use Rattle.script.specs.Forms.{longest_list, two_wide, row_limits, line_limits}
-use Rattle.script.specs.Script.{call, script_part_of, line_parsed}
+use Rattle.script.specs.Forms.{longest_list, two_wide, row_number_limits, line_number_limits}
+use Rattle.script.specs.Script.{command, script_part_of, line_parsed}
 
 -- words, a space before each
 abbrev pub spaced : List (List ℕ) → List ℕ
@@ -26,7 +27,7 @@ row_numbers r = kind_number r.kind ∷ r.from ∷ r.to ∷ r.label ∷ r.action 
 abbrev pub line_numbers : Line → List ℕ
 line_numbers l = l.from ∷ l.to ∷ l.event ∷ l.cost ∷ []
 
--- the name of a call
+-- the name of a command
 abbrev pub name_word : Command → List ℕ
 name_word (kind k) = codes "kind"
 name_word (size m t) = codes "size"
@@ -60,35 +61,31 @@ words_after (path n) = map decimal (n ∷ [])
 words_after (between s q) = map decimal (s ∷ q ∷ [])
 words_after (check ms) = map written_u16 ms
 
--- a call as a line
+-- a command as a line
 abbrev pub written_line : Command → List ℕ
 written_line c = name_word c ++ spaced (words_after c)
 
--- as many numbers as limits, each at most its limit
-abbrev pub UpTo : List ℕ → List ℕ → Type 0
-UpTo limits ns = AllZip (λ limit n. n ≤ limit) limits ns
-
--- the numbers of a call are within their limits
+-- the numbers of a command are within their limits
 abbrev pub Fits : Command → Type 0
 Fits (kind k) = Unit {0}
-Fits (size m t) = UpTo two_wide (m ∷ t ∷ [])
-Fits (row r) = UpTo row_limits (row_numbers r)
-Fits (line l) = UpTo line_limits (line_numbers l)
-Fits (reprice_row i c) = UpTo two_wide (i ∷ c ∷ [])
-Fits (reprice_line i c) = UpTo two_wide (i ∷ c ∷ [])
+Fits (size m t) = Within two_wide (m ∷ t ∷ [])
+Fits (row r) = Within row_number_limits (row_numbers r)
+Fits (line l) = Within line_number_limits (line_numbers l)
+Fits (reprice_row i c) = Within two_wide (i ∷ c ∷ [])
+Fits (reprice_line i c) = Within two_wide (i ∷ c ∷ [])
 Fits clear = Unit {0}
 Fits (load bs) = AllByRecursion (λ b. b < 2 ^ 8) bs
 Fits settle = Unit {0}
 Fits reopen = Unit {0}
 Fits cost = Unit {0}
 Fits (path n) = n ≤ longest_list
-Fits (between s q) = UpTo two_wide (s ∷ q ∷ [])
+Fits (between s q) = Within two_wide (s ∷ q ∷ [])
 Fits (check ms) = AllByRecursion (λ m. m < 2 ^ 16) ms × (length ms ≤ longest_list)
 
--- The laws of a call's line.
-pub record CallsReadBack : Type 0 where
-  -- a call within its limits, written as a line, reads back as that call, alone and with any answer behind an arrow
-  pub alone : (c : Command) → Fits c → line_parsed (written_line c) ≡ call c
-  pub answered : (c : Command) → Fits c → (answer : List ℕ) → line_parsed (written_line c ++ (codes " -> " ++ answer)) ≡ call c
-  -- a line that says a call, however it is spelled, says it again as it is printed: its part before the arrow, and any answer
-  pub again : (line answer : List ℕ) (c : Command) → line_parsed line ≡ call c → line_parsed (script_part_of line ++ (codes " -> " ++ answer)) ≡ call c
+-- The laws of a command's line.
+pub record CommandsReadBack : Type 0 where
+  -- a command within its limits, written as a line, reads back as that command, alone and with any answer behind an arrow
+  pub alone : (c : Command) → Fits c → line_parsed (written_line c) ≡ command c
+  pub answered : (c : Command) → Fits c → (answer : List ℕ) → line_parsed (written_line c ++ (codes " -> " ++ answer)) ≡ command c
+  -- a line that says a command, however it is spelled, says it again as it is printed: its part before the arrow, and any answer
+  pub again : (line answer : List ℕ) (c : Command) → line_parsed line ≡ command c → line_parsed (script_part_of line ++ (codes " -> " ++ answer)) ≡ command c

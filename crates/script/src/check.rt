@@ -1,30 +1,30 @@
 // The words of check: a number of 16 bits in hexadecimal, or HEX*K for that number K times.
 ghost use Rattle.std.specs.Prelude.{◌≡◌, map, IfSome, vec_items};
 ghost use Rattle.script.specs.Reads.{read_of};
-ghost use Rattle.script.specs.Runs.{run_of, moves_of};
+ghost use Rattle.script.specs.Repeats.{repeat_of, moves_of};
 
 use crate::error::ParseError;
 use crate::limits::LONGEST_LIST;
 use std::alloc::Global;
 use words::{U32_MAX, hex_u16, number, split_once};
 
-// A number so many times.
+// A move so many times.
 #[derive(Clone, Copy)]
-pub struct Run {
+pub struct Repeat {
     number: u16,
     times: u32,
 }
 
-// The run that the word writes.
-fn read_run(word: &[u8]) -> Option<Run>
-    ensures { result ≡ run_of word.now }
+// The repeated move that the word writes.
+fn read_repeat(word: &[u8]) -> Option<Repeat>
+    ensures { result ≡ repeat_of word.now }
 {
     let (hex, times) = match split_once(word, b"*") {
         Some((hex, times)) => (hex, number(times, U32_MAX)? as u32),
         None => (word, 1),
     };
     let number = hex_u16(hex)?;
-    Some(Run { number, times })
+    Some(Repeat { number, times })
 }
 
 // The numbers that the words list, where there are not too many.
@@ -33,12 +33,12 @@ pub fn moves(heap: Global, words: &[&[u8]]) -> Result<Vec<u16>, ParseError>
 {
     let mut list = Vec::new(heap);
     for word in words {
-        let run = read_run(word).ok_or(ParseError::Unreadable)?;
-        let len = list.len() + run.times as usize;
+        let repeat = read_repeat(word).ok_or(ParseError::Unreadable)?;
+        let len = list.len() + repeat.times as usize;
         if len > LONGEST_LIST {
             return Err(ParseError::Unreadable);
         }
-        list.resize(len, run.number)?;
+        list.resize(len, repeat.number)?;
     }
     Ok(list)
 }

@@ -1,4 +1,4 @@
-// The calls that a script makes.
+// The commands of a script, and the calls on a board that they make.
 ghost use Rattle.std.specs.Prelude.{◌≡◌};
 ghost use Rattle.std.specs.Option.{option_map};
 ghost use Rattle.script.specs.Commands.{command_of, on_board};
@@ -8,7 +8,7 @@ use board::{Line, Row};
 use costs::KindName;
 use file::Call;
 
-// One call.
+// One command.
 #[derive(Debug, PartialEq, Eq, Drop)]
 pub enum Command {
     // a new board of this kind

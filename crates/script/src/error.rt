@@ -1,4 +1,4 @@
-// Why a line gives no call.
+// Why a line gives no command.
 ghost use Rattle.std.specs.Prelude.{◌≡◌, Some, codes};
 ghost use Rattle.script.specs.declared.error.ParseError.TheVariants.{Unreadable, OutOfMemory};
 ghost use Rattle.std.proofs.Common.{rules};
@@ -12,7 +12,7 @@ use values::{ExactClone, ExactEq};
 
 #[derive(Clone, Copy, Debug, PartialEq, Eq, Hash)]
 pub enum ParseError {
-    // it is no call, or its words are not as the call asks
+    // it is no command, or its words are not as the command asks
     Unreadable,
     // memory did not suffice
     OutOfMemory,

@@ -1,12 +1,12 @@
-// The forms of calls: each function reads the words after a call's name.
+// The forms of commands: each function reads the words after a command's name.
 ghost use Rattle.std.specs.Prelude.{◌≡◌, map, IfSome, slice_index};
 ghost use Rattle.std.specs.Option.{option_map};
 ghost use Rattle.words.specs.Numbers.{numbers_of};
 ghost use Rattle.script.specs.Commands.{command_of};
 ghost use Rattle.script.specs.Reads.{read_of};
-ghost use Rattle.script.specs.Forms.{two_wide, alone_call, kind_call, row_call, line_call, file_word, load_call, path_call};
-ghost use Rattle.script.specs.Runs.{check_call};
-ghost use Rattle.script.specs.Script.{call_of};
+ghost use Rattle.script.specs.Forms.{two_wide, alone_command, kind_command, row_command, line_command, file_word, load_command, path_command};
+ghost use Rattle.script.specs.Repeats.{check_command};
+ghost use Rattle.script.specs.Script.{command_named};
 
 use crate::check::moves;
 use crate::command::Command;
@@ -18,16 +18,16 @@ use costs::KindName;
 use std::alloc::Global;
 use words::{U8_MAX, U32_MAX, hex_byte_pairs, numbers};
 
-// The call, where no words follow its name.
+// The command, where no words follow its name.
 fn alone(command: Command, words: &[&[u8]]) -> Option<Command>
-    ensures { option_map command_of result ≡ alone_call (command_of command) (map (λ x. x.now) words.now) }
+    ensures { option_map command_of result ≡ alone_command (command_of command) (map (λ x. x.now) words.now) }
 {
     words.is_empty().then_some(command)
 }
 
 // kind LETTER
 fn kind(words: &[&[u8]]) -> Option<Command>
-    ensures { option_map command_of result ≡ kind_call (map (λ x. x.now) words.now) }
+    ensures { option_map command_of result ≡ kind_command (map (λ x. x.now) words.now) }
 {
     let [[letter]] = words else {
         return None;
@@ -46,7 +46,7 @@ fn two(words: &[&[u8]]) -> Option<(u32, u32)>
 
 // row KIND FROM TO LABEL ACTION COST
 fn add_row(words: &[&[u8]]) -> Option<Command>
-    ensures { option_map command_of result ≡ row_call (map (λ x. x.now) words.now) }
+    ensures { option_map command_of result ≡ row_command (map (λ x. x.now) words.now) }
 {
     let [kind, from, to, label, action, cost] = numbers(
         words,
@@ -64,7 +64,7 @@ fn add_row(words: &[&[u8]]) -> Option<Command>
 
 // line FROM TO EVENT COST
 fn add_line(words: &[&[u8]]) -> Option<Command>
-    ensures { option_map command_of result ≡ line_call (map (λ x. x.now) words.now) }
+    ensures { option_map command_of result ≡ line_command (map (λ x. x.now) words.now) }
 {
     let [from, to, event, cost] = numbers(words, [U8_MAX, U8_MAX, U8_MAX, U32_MAX])?;
     Some(Command::AddLine(Line {
@@ -88,7 +88,7 @@ fn file_word<'a>(words: &[&'a [u8]]) -> Option<&'a [u8]>
 
 // load HEX
 fn load(heap: Global, words: &[&[u8]]) -> Result<Command, ParseError>
-    ensures { IfSome (read_of command_of result) (λ o. o ≡ load_call (map (λ x. x.now) words.now)) }
+    ensures { IfSome (read_of command_of result) (λ o. o ≡ load_command (map (λ x. x.now) words.now)) }
 {
     let word = file_word(words).ok_or(ParseError::Unreadable)?;
     let bytes = hex_byte_pairs(heap, word)?.ok_or(ParseError::Unreadable)?;
@@ -97,7 +97,7 @@ fn load(heap: Global, words: &[&[u8]]) -> Result<Command, ParseError>
 
 // path LENGTH
 fn path(words: &[&[u8]]) -> Option<Command>
-    ensures { option_map command_of result ≡ path_call (map (λ x. x.now) words.now) }
+    ensures { option_map command_of result ≡ path_command (map (λ x. x.now) words.now) }
 {
     let [length] = numbers(words, [LONGEST_LIST as u64])?;
     Some(Command::Path(length as usize))
@@ -105,15 +105,15 @@ fn path(words: &[&[u8]]) -> Option<Command>
 
 // check HEX..
 fn check(heap: Global, words: &[&[u8]]) -> Result<Command, ParseError>
-    ensures { IfSome (read_of command_of result) (λ o. o ≡ check_call (map (λ x. x.now) words.now)) }
+    ensures { IfSome (read_of command_of result) (λ o. o ≡ check_command (map (λ x. x.now) words.now)) }
 {
     let moves = moves(heap, words)?;
     Ok(Command::Check(moves))
 }
 
-// The call of that name with the words after it.
-pub fn call(heap: Global, name: Name, words: &[&[u8]]) -> Result<Command, ParseError>
-    ensures { IfSome (read_of command_of result) (λ o. o ≡ call_of name (map (λ x. x.now) words.now)) }
+// The command of that name with the words after it.
+pub fn command_named(heap: Global, name: Name, words: &[&[u8]]) -> Result<Command, ParseError>
+    ensures { IfSome (read_of command_of result) (λ o. o ≡ command_named name (map (λ x. x.now) words.now)) }
 {
     let command = match name {
         Name::Kind => kind(words),

@@ -1,4 +1,4 @@
-// Scripts of calls on a board: reading a line, running it, and what is printed of its answer.
+// Scripts of commands, which make calls on a board: reading a line, running it, and what is printed of its answer.
 #![tactic(auto)]
 
 mod check;

@@ -1,8 +1,8 @@
-// The names of calls.
+// The names of commands.
 ghost use Rattle.std.specs.Prelude.{◌≡◌};
 ghost use Rattle.script.specs.Names.{spells, name_of};
 
-// The calls by their names.
+// The commands by their names.
 #[derive(Clone, Copy)]
 pub enum Name {
     Kind,
@@ -28,8 +28,8 @@ fn is(word: &[u8], text: &[u8]) -> bool
     word == text
 }
 
-// The call that the word names.
-pub fn named(word: &[u8]) -> Option<Name>
+// The command that the word names.
+pub fn name_of_word(word: &[u8]) -> Option<Name>
     ensures { result ≡ name_of word.now }
 {
     // an `if` for each name and no `match`, which is proved byte by byte: 87 goals, where this one leaves one

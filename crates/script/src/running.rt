@@ -6,7 +6,7 @@ ghost use Rattle.file.specs.States.{draft};
 ghost use Rattle.file.specs.Histories.{state_of};
 ghost use Rattle.script.specs.Commands.{command_of, on_board};
 ghost use Rattle.script.specs.Script.{script_part_of, line_parsed};
-ghost use Rattle.script.specs.Printing.{buffer_of, made_text, made_state, board_text, board_after, call_text, call_after, line_text, after_line, printed, PrintsAnswers};
+ghost use Rattle.script.specs.Printing.{buffer_of, made_text, made_state, board_text, board_after, command_text, command_after, line_text, after_line, printed, PrintsAnswers};
 ghost use Rattle.script.specs.Worked.{WorkedScripts};
 ghost use Rattle.script.specs.Sessions.{session_state, said};
 
@@ -93,8 +93,8 @@ fn obey(
     session: Option<Session>,
     command: &Command,
 ) -> Result<Option<Session>, AllocError>
-    ensures text { OnOk result (out.new.items ≡ out.old.items ++ call_text (option_map session_state session) (command_of command.now)) }
-    ensures after { IfOk result (λ s. option_map session_state s ≡ call_after (option_map session_state session) (command_of command.now)) }
+    ensures text { OnOk result (out.new.items ≡ out.old.items ++ command_text (option_map session_state session) (command_of command.now)) }
+    ensures after { IfOk result (λ s. option_map session_state s ≡ command_after (option_map session_state session) (command_of command.now)) }
 {
     if let Command::Kind(kind) = command {
         return Ok(Some(new_session(*kind)));

@@ -1,12 +1,12 @@
 // Reading a line of a script.
 ghost use Rattle.std.specs.Prelude.{◌≡◌, map, IfSome};
 ghost use Rattle.script.specs.Script.{script_part_of, words_parsed, line_parsed, parsed_of};
-ghost use Rattle.script.specs.Written.{CallsReadBack};
+ghost use Rattle.script.specs.Written.{CommandsReadBack};
 
 use crate::command::Command;
 use crate::error::ParseError;
-use crate::forms::call;
-use crate::name::named;
+use crate::forms::command_named;
+use crate::name::name_of_word;
 use std::alloc::Global;
 use words::{Spacing, pieces, split_once, trimmed, word_theorems};
 
@@ -25,8 +25,8 @@ fn parse_words(heap: Global, words: &[&[u8]]) -> Result<Option<Command>, ParseEr
     match words {
         [] | [[b'#', ..], ..] => Ok(None),
         [first, rest @ ..] => {
-            let name = named(first).ok_or(ParseError::Unreadable)?;
-            let command = call(heap, name, rest)?;
+            let name = name_of_word(first).ok_or(ParseError::Unreadable)?;
+            let command = command_named(heap, name, rest)?;
             Ok(Some(command))
         }
     }
@@ -36,7 +36,7 @@ fn parse_words(heap: Global, words: &[&[u8]]) -> Result<Option<Command>, ParseEr
 #[tactic(auto, using(crate::proofs::Writing::reads_written))]
 pub fn parse(heap: Global, line: &[u8]) -> Result<Option<Command>, ParseError>
     ensures made { IfSome (parsed_of result) (λ p. p ≡ line_parsed line.now) }
-    ensures reads_written { CallsReadBack }
+    ensures reads_written { CommandsReadBack }
 {
     word_theorems();
     let words = pieces::<Spacing>(heap, script_part(line))?;

@@ -2,14 +2,13 @@
 -- that digits write, two to a byte (`decode_of`), and the digits that bytes are written as, in lower case (`encode_lower`).
 use Rattle.std.specs.Prelude.{◌≡◌, ℕ, ◌+◌, ◌*◌, ◌/◌, ◌%◌, ◌^◌, ◌<◌, cond, ◌&&◌, List, [], ◌∷◌, length, Some, None, Option, nat_le}
 use Rattle.std.specs.List.{AllByRecursion, fold}
+use Rattle.std.specs.Option.{option_map, option_zip}
 use Rattle.std.specs.Result.{result_ok}
 use Rattle.hex.specs.Hex.{hex_digit_value, decode_of, encode_lower}
 
 -- a number, and then a digit's value
 abbrev pub then_digit : Option ℕ → Option ℕ → Option ℕ
-then_digit None d = None
-then_digit (Some n) None = None
-then_digit (Some n) (Some d) = Some (n * 16 + d)
+then_digit n d = option_map (λ p. p.0 * 16 + p.1) (option_zip n d)
 
 -- digits read after a number
 abbrev pub hex_on : Option ℕ → List ℕ → Option ℕ

@@ -1,14 +1,8 @@
 -- The decimal number that a word writes.
 use Rattle.std.specs.Prelude.{◌≡◌, ℕ, suc, ◌+◌, ◌-◌, ◌*◌, ◌≤◌, Bool, cond, ◌&&◌, List, [], ◌∷◌, length, Some, None, decimal, Option, nat_le, nat_lt, slice_index}
-use Rattle.std.specs.Char.{is_ascii_digit}
-use Rattle.std.specs.List.{list_all, fold}
-
--- the bytes '0' to '9'
-abbrev pub is_digit : ℕ → Bool
-is_digit b = is_ascii_digit b
-
-abbrev pub all_digits : List ℕ → Bool
-all_digits bs = list_all is_digit bs
+use Rattle.std.specs.Str.{all_ascii_digits}
+use Rattle.std.specs.List.{fold}
+use Rattle.std.specs.Option.{option_map, option_zip}
 
 -- digits read after the number n: each makes it ten times as large and adds its own value
 abbrev pub read_on : ℕ → List ℕ → ℕ
@@ -24,7 +18,7 @@ u32_max = 4294967295
 
 -- one or more digits, and nothing else, that write a number of at most the limit
 abbrev pub is_number : ℕ → List ℕ → Bool
-is_number limit w = nat_lt 0 (length w) && (all_digits w && nat_le (read_on 0 w) limit)
+is_number limit w = nat_lt 0 (length w) && (all_ascii_digits w && nat_le (read_on 0 w) limit)
 
 -- a word's number, up to the limit
 unfoldable pub number_of : ℕ → List ℕ → Option ℕ
@@ -36,9 +30,7 @@ DecimalReadsBack limit = (n : ℕ) → n ≤ limit → number_of limit (decimal 
 
 -- a number that was read, before others
 abbrev pub number_before : Option ℕ → Option (List ℕ) → Option (List ℕ)
-number_before None ns = None
-number_before (Some n) None = None
-number_before (Some n) (Some ns) = Some (n ∷ ns)
+number_before n ns = option_map (λ p. p.0 ∷ p.1) (option_zip n ns)
 
 -- the numbers that words write: one word for each limit, and its number up to that limit
 abbrev pub numbers_of : List ℕ → List (List ℕ) → Option (List ℕ)

@@ -6,9 +6,6 @@ use Rattle.std.specs.List.{filter, slice_split, AllByRecursion}
 abbrev pub spacing : ℕ → Bool
 spacing b = b == 32 || b == 9
 
-abbrev pub newline : ℕ → Bool
-newline b = b == 10
-
 -- whether a run of bytes has one
 abbrev pub has_byte : List ℕ → Bool
 has_byte [] = false

@@ -1,7 +1,7 @@
 -- Splitting bytes at a mark.
 use Rattle.std.specs.Prelude.{◌≡◌, ℕ, cond, List, [], ◌∷◌, ◌++◌, Some, None, Option, ◌==◌}
 use Rattle.std.specs.Borrow.{Bor}
-use Rattle.std.specs.Option.{option_map}
+use Rattle.std.specs.Option.{option_map, option_or}
 
 -- what follows the mark, where bytes begin with it
 abbrev pub after_mark : List ℕ → List ℕ → Option (List ℕ)
@@ -15,8 +15,7 @@ longer b o = option_map (λ p. (b ∷ p.0, p.1)) o
 
 -- a mark found here goes before one found later
 abbrev pub split_here : ℕ → Option (List ℕ) → Option (List ℕ × List ℕ) → Option (List ℕ × List ℕ)
-split_here b None later = longer b later
-split_here b (Some back) later = Some ([], back)
+split_here b back later = option_or (option_map (λ bs. ([], bs)) back) (longer b later)
 
 -- what stands before the first mark, and what follows it; a mark has one byte or more
 abbrev pub split_of : List ℕ → List ℕ → Option (List ℕ × List ℕ)

@@ -1,6 +1,7 @@
 // Cutting bytes at separators.
 ghost use Rattle.std.specs.Prelude.{◌≡◌, ℕ, Bool, map, IfOk};
-ghost use Rattle.words.specs.Pieces.{pieces_of, spacing, newline, CuttingLaws};
+ghost use Rattle.std.specs.Char.{is_newline};
+ghost use Rattle.words.specs.Pieces.{pieces_of, spacing, CuttingLaws};
 
 use std::alloc::{AllocError, Global};
 
@@ -27,7 +28,7 @@ impl Separator for Spacing {
 pub struct Newline;
 
 impl Separator for Newline {
-    ghost separates = { newline };
+    ghost separates = { is_newline };
 
     fn is_separator(byte: u8) -> bool {
         byte == b'\n'

@@ -3,7 +3,7 @@ use Rattle.std.specs.Option.{option_map}
 use Rattle.script.specs.Commands.{command_of}
 use Rattle.script.specs.Printing.{SessionState, board_text, board_after}
 use Rattle.script.specs.Sessions.{session_state}
-use Rattle.script.proofs.Printing.{board_call, made_call}
+use Rattle.script.proofs.Printing.{board_command, made_call}
 use Rattle.script.proofs.running.obey.Goals as goal
 
 pub returns-in_ok-next-in-Some : goal.returns-in_ok-next-in-Some
@@ -13,7 +13,7 @@ returns-in_ok-next-in-Some c =
     let here = Some (session_state c.in-Some.session) in
     let there = sym (ap (option_map session_state) c.in-Some.is) in
     let made = made_call c.args.command.now c.in_default.not-Kind in
-    let other = board_call (option_map session_state c.args.session) x made.0 made.1 in
+    let other = board_command (option_map session_state c.args.session) x made.0 made.1 in
     let next = c.in_ok-next-in-Some.ensures in
     record {
       text =

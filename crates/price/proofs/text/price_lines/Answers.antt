@@ -2,9 +2,9 @@ use Rattle.std.proofs.Common.{◌≡◌, ℕ, List, get_or, ◌+◌, [], ◌++�
 use Rattle.std.specs.Borrow.{Bor}
 use Rattle.std.specs.List.{flat_map}
 use Rattle.std.proofs.lemmas.List.{get_or-map, length-map}
-use Rattle.price.specs.Report.{line_printed}
+use Rattle.price.specs.Printed.{line_printed}
 use Rattle.price.proofs.Printing.{appended, line_next}
-use Rattle.price.proofs.text.report.Goals as goal
+use Rattle.price.proofs.text.price_lines.Goals as goal
 
 pub loop-line-preserved : goal.loop-line-preserved
 loop-line-preserved c =
