@@ -34,18 +34,18 @@ answer_text m s x buffer = told_text (step_answer m s (defined_records m s) x bu
 
 -- the same of a call that there may be, and the state after it; without one nothing is printed, and the state stays
 abbrev pub made_text : Meaning → State → Option Call → List ℕ → List ℕ
-made_text m s x buffer = option_map_or (λ x. answer_text m s x buffer) x []
+made_text m s made buffer = option_map_or (λ x. answer_text m s x buffer) made []
 
 abbrev pub made_state : Meaning → State → Option Call → State
-made_state m s x = option_map_or (stepped m s) x s
+made_state m s made = option_map_or (stepped m s) made s
 
 -- what is printed of the answer to a command's call on the board that there is, and the board after it; where no kind was
 -- named yet, the call is not taken
 abbrev pub board_text : Option SessionState → Command → List ℕ
-board_text s c = option_map_or (λ s. made_text (meaning_of s.kind) s.state (on_board c) (buffer_of c)) s (told_text NotTaken [] [])
+board_text session c = option_map_or (λ s. made_text (meaning_of s.kind) s.state (on_board c) (buffer_of c)) session (told_text NotTaken [] [])
 
 abbrev pub board_after : Option SessionState → Command → Option SessionState
-board_after s c = option_map (λ s. record { kind = s.kind; state = made_state (meaning_of s.kind) s.state (on_board c) }) s
+board_after session c = option_map (λ s. record { kind = s.kind; state = made_state (meaning_of s.kind) s.state (on_board c) }) session
 
 -- What is printed behind any command, and the board after it: naming a kind begins a new board, and has no answer.
 abbrev pub command_text : Option SessionState → Command → List ℕ
