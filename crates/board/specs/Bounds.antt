@@ -5,6 +5,10 @@ use Rattle.std.specs.Prelude.{ℕ}
 abbrev pub most_places : ℕ
 most_places = 64
 
+-- pairs of places, so records of a log, at most: 64 times 64
+abbrev pub most_pairs : ℕ
+most_pairs = 4096
+
 -- rows at most
 abbrev pub most_rows : ℕ
 most_rows = 128

@@ -1,5 +1,5 @@
 -- Records found by their numbers, and the readings that they make.
-use Rattle.std.specs.Prelude.{ℕ, ◌<◌, Some, None, Option, [], ◌∷◌, ◌++◌}
+use Rattle.std.specs.Prelude.{ℕ, ◌<◌, Option, [], ◌∷◌, ◌++◌, IfSome}
 use Rattle.std.specs.Option.{option_map}
 use Rattle.board.specs.declared.reading.Reading.{Reading as LogReading}
 use Rattle.board.specs.declared.log.Log.{Log}
@@ -9,13 +9,11 @@ use Rattle.board.specs.Computing.{Reading}
 
 -- the number, if there is one, is below n
 abbrev pub NumberIn : ℕ → Option ℕ → Type 0
-NumberIn n None = Unit {0}
-NumberIn n (Some i) = i < n
+NumberIn n o = IfSome o (λ i. i < n)
 
 -- the number of a reading's record is below n, and its row below t
 abbrev pub ReadingIn : ℕ → ℕ → Option LogReading → Type 0
-ReadingIn n t None = Unit {0}
-ReadingIn n t (Some r) = (r.before < n) × (r.row < t)
+ReadingIn n t o = IfSome o (λ (r : LogReading). (r.before < n) × (r.row < t))
 
 -- the record of this number, if one was found
 abbrev pub record_by_number : Log → Option ℕ → Option Record

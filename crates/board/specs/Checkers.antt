@@ -1,5 +1,6 @@
 -- What the checker's state means.
-use Rattle.std.specs.Prelude.{ℕ, List, reverse, Ok, Err, Result}
+use Rattle.std.specs.Prelude.{ℕ, List, reverse, Ok, Result}
+use Rattle.std.specs.Result.{result_and}
 use Rattle.board.specs.declared.checker.OpenBrackets.{OpenBrackets}
 use Rattle.board.specs.declared.checker.Checker.{Checker}
 use Rattle.board.specs.declared.refusal.Refusal.{Refusal}
@@ -15,5 +16,4 @@ progress_of w = record { place = w.place; unclosed = unclosed_of w.brackets; end
 
 -- what a step that may be refused leaves
 abbrev pub left : {X : Type 0} → Result (Unit {0}) Refusal → X → Result X Refusal
-left (Ok u) x = Ok x
-left (Err e) x = Err e
+left r x = result_and r (Ok x)

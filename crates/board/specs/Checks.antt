@@ -1,5 +1,6 @@
 -- Checking a list of packed moves, move by move.
 use Rattle.std.specs.Prelude.{ℕ, suc, Bool, false, cond, not, ◌||◌, List, [], ◌∷◌, length, Some, None, Ok, Err, Option, Result, ◌==◌, nat_lt}
+use Rattle.std.specs.Result.{result_map_both}
 use Rattle.std.specs.Option.{option_and_then}
 use Rattle.costs.specs.Meaning.{Meaning}
 use Rattle.board.specs.Bounds.{most_open}
@@ -40,8 +41,7 @@ before_moves m = record { place = origin; unclosed = []; ended = false; cost = m
 
 -- after a move that leads to a, with these brackets open then, or refused for its brackets
 abbrev pub arrived : Meaning → ℕ → Arrival → Result (List ℕ) Refusal → Result Progress Refusal
-arrived m k a (Ok st) = Ok (record { place = a.to; unclosed = st; ended = is_end a.effect; cost = m.join k a.cost })
-arrived m k a (Err e) = Err e
+arrived m k a r = result_map_both (λ st. record { place = a.to; unclosed = st; ended = is_end a.effect; cost = m.join k a.cost }) (λ e. e) r
 
 -- one move, by what it names: 15 where that is nothing; then 16 where an end row came before or it does not start at the
 -- place reached; then its brackets

@@ -1,6 +1,7 @@
 -- The log: its records, its index and its lengths, and what a round makes of it.
 use Rattle.std.specs.Prelude.{◌≡◌, ℕ, suc, ◌+◌, ◌<◌, ◌≤◌, min, List, [], ◌∷◌, length, replicate, Some, None, Option, slice_index, slice_index_or, slice_set, ◌*◌}
 use Rattle.std.proofs.Props.{props}
+use Rattle.board.specs.Bounds.{most_places, most_pairs, many_moves}
 use Rattle.board.specs.declared.log.Derivation.{Derivation as LogDerivation}
 use Rattle.board.specs.declared.log.Derivation.TheVariants.{Start, Step, Call}
 use Rattle.costs.specs.Meaning.{Meaning, Cost}
@@ -23,7 +24,7 @@ Refers n (Call i j o w t) = (i < n) × (j < n)
 
 -- the pair number of two places: first place times 64 plus second
 abbrev pub pair_of : Content → Place → Place → ℕ
-pair_of c s q = place_number c s * 64 + place_number c q
+pair_of c s q = place_number c s * most_places + place_number c q
 
 -- the record that number i of an array stands for
 abbrev pub record_at : List LogRecord → ℕ → Record
@@ -47,20 +48,20 @@ pub record Kept (m : Meaning) (c : Content) (r : LogRecord) : Type 0 where
 
 -- Each record refers to earlier ones, and its length is that of its moves, 65,536 where they are more.
 pub record Spells (l : Log) : Type 0 where
-  pub room : l.count ≤ 4096
+  pub room : l.count ≤ most_pairs
   pub earlier : (i : ℕ) → i < l.count → Refers i (numbered l i).derivation
-  pub lengths_are : (i : ℕ) → i < l.count → slice_index l.lengths i ≡ min (length (nth_record l i).moves) 65536
+  pub lengths_are : (i : ℕ) → i < l.count → slice_index l.lengths i ≡ min (length (nth_record l i).moves) many_moves
 
 -- Each record is between places of the board at a cost of the kind, the index finds it and nothing else, and it spells out
 -- its moves.
 pub record Book (m : Meaning) (c : Content) (l : Log) : Type 0 where
-  pub long : length l.records ≡ 4096
-  pub index_long : length l.index ≡ 4096
+  pub long : length l.records ≡ most_pairs
+  pub index_long : length l.index ≡ most_pairs
   pub kept : (i : ℕ) → i < l.count → Kept m c (numbered l i)
   pub found : (i : ℕ) → i < l.count → slice_index_or l.index (pair_of c (numbered l i).from (numbered l i).to) None ≡ Some i
   pub finds : (p i : ℕ) → slice_index_or l.index p None ≡ Some i → (i < l.count) × (pair_of c (numbered l i).from (numbered l i).to ≡ p)
   pub full : settled_count l.index ≡ l.count
-  pub lengths_long : length l.lengths ≡ 4096
+  pub lengths_long : length l.lengths ≡ most_pairs
   pub spells : Spells l
 
 -- there is one proof at most that a derivation refers to earlier records
@@ -87,7 +88,7 @@ pushed l p r n = record { records = slice_set l.records l.count r; count = l.cou
 
 -- nothing settled
 abbrev pub empty : Log
-empty = record { records = replicate 4096 blank; count = 0; index = replicate 4096 None; lengths = replicate 4096 0 }
+empty = record { records = replicate most_pairs blank; count = 0; index = replicate most_pairs None; lengths = replicate most_pairs 0 }
 
 -- a log that some number of rounds reach
 abbrev pub Reached : Meaning → Content → List Record → Type 0

@@ -62,23 +62,23 @@ WritesCheapestReading form m c log buffer (Err e) after = WritingDeclined m c lo
 
 -- the places that the two numbers stand for
 pub record Pair (c : Content) (s q : ℕ) : Type 0 where
-  pub first : Place
-  pub second : Place
-  pub first_on : On c first
-  pub second_on : On c second
-  pub first_number : place_number c first ≡ s
-  pub second_number : place_number c second ≡ q
+  pub from : Place
+  pub to : Place
+  pub from_on : On c from
+  pub to_on : On c to
+  pub from_number : place_number c from ≡ s
+  pub to_number : place_number c to ≡ q
 
 -- both numbers stand for places, k is the least cost from the one to the other, and it is below the worst
 pub record LeastBetween (m : Meaning) (c : Content) (s q k : ℕ) : Type 0 where
   pub pair : Pair c s q
-  pub least : LeastCost m c pair.first pair.second k
+  pub least : LeastCost m c pair.from pair.to k
   pub below : Cheaper m k m.worst
 
 -- both numbers stand for places, and no balanced path from the one to the other costs less than the worst
 pub record NoneBetween (m : Meaning) (c : Content) (s q : ℕ) : Type 0 where
   pub pair : Pair c s q
-  pub none : (vs : List Move) (k : ℕ) → BalancedPath m c vs pair.first pair.second k → NoDearer m m.worst k
+  pub none : (vs : List Move) (k : ℕ) → BalancedPath m c vs pair.from pair.to k → NoDearer m m.worst k
 
 -- what between's answer means: the least cost of the pair, that a number stands for no place, or that no balanced path
 -- below the worst joins the pair

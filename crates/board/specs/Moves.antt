@@ -88,7 +88,7 @@ pub record Timed (m : Meaning) (c : Content) (r : Row) (line : Option ℕ) (t u 
   pub is_plain : r.kind ≡ Plain
   pub some_event : r.label ≡ 0 → ⊥
   pub same_event : taken.event ≡ r.label
-  pub start : t ≡ taken.from
+  pub depart : t ≡ taken.from
   pub arrive : u ≡ taken.to
   pub price : k ≡ m.join r.cost taken.cost
 

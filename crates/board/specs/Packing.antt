@@ -1,11 +1,11 @@
 -- A move packed into 16 bits.
-use Rattle.std.specs.Prelude.{◌≡◌, ℕ, ◌+◌, ◌*◌, ◌/◌, ◌%◌, ◌<◌, cond, Some, None, Option, ◌==◌, nat_lt}
+use Rattle.std.specs.Prelude.{◌≡◌, ℕ, ◌+◌, ◌*◌, ◌/◌, ◌%◌, ◌<◌, cond, Some, None, Option, ◌==◌, nat_lt, IfSome}
+use Rattle.std.specs.Option.{option_map_or}
 use Rattle.board.specs.declared.moves.Move.{Move}
 
 -- the lower 8 bits: a bit that is 1 with a line, then the line in 7 bits or zeros
 abbrev pub line_bits : Option ℕ → ℕ
-line_bits None = 0
-line_bits (Some j) = 128 + j
+line_bits line = option_map_or (λ j. 128 + j) line 0
 
 -- most significant first: a zero bit, the row in 7 bits, and the line's bits
 abbrev pub packed : Move → ℕ
@@ -13,8 +13,7 @@ packed v = v.row * 256 + line_bits v.line
 
 -- the line fits 7 bits
 abbrev pub SmallLine : Option ℕ → Type 0
-SmallLine None = Unit {0}
-SmallLine (Some j) = j < 128
+SmallLine line = IfSome line (λ j. j < 128)
 
 -- row and line fit 7 bits
 abbrev pub Small : Move → Type 0

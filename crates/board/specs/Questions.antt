@@ -1,6 +1,6 @@
 -- What a settled board answers, from its content and its log.
-use Rattle.std.specs.Prelude.{ℕ, ◌*◌, min, Bool, cond, ◌&&◌, ◌||◌, List, ◌++◌, map, length, drop, Some, None, Ok, Err, Option, Result, nat_le}
-use Rattle.std.specs.Option.{ok_or, option_map}
+use Rattle.std.specs.Prelude.{ℕ, ◌*◌, min, Bool, cond, ◌&&◌, ◌||◌, List, ◌++◌, map, length, drop, Ok, Err, Option, Result, nat_le}
+use Rattle.std.specs.Option.{ok_or, option_map, option_map_or}
 use Rattle.costs.specs.Meaning.{Meaning}
 use Rattle.board.specs.Bounds.{many_moves, most_written}
 use Rattle.board.specs.declared.moves.Move.{Move}
@@ -34,13 +34,11 @@ fits f buffer = nat_le (length f.moves) (length buffer) && nat_le (length f.move
 
 -- how many moves a reading has, if it fits
 abbrev pub written_told : {A : Type 0} → Option Reading → List A → Result ℕ Refusal
-written_told None buffer = Err NoReading
-written_told (Some f) buffer = cond (fits f buffer) (Ok (length f.moves)) (Err TooLong)
+written_told o buffer = option_map_or (λ (f : Reading). cond (fits f buffer) (Ok (length f.moves)) (Err TooLong)) o (Err NoReading)
 
 -- the buffer with a reading's moves in front, in order and each in a form, and then what stood there; if it fits
 abbrev pub moves_written : {A : Type 0} → (Move → A) → Option Reading → List A → List A
-moves_written form None buffer = buffer
-moves_written form (Some f) buffer = cond (fits f buffer) (map form f.moves ++ drop (length f.moves) buffer) buffer
+moves_written form o buffer = option_map_or (λ (f : Reading). cond (fits f buffer) (map form f.moves ++ drop (length f.moves) buffer) buffer) o buffer
 
 -- The recorded reading's moves are written in order to the front of a buffer, each in a form: how many they are, unless they
 -- are more than the buffer holds or than 65,535,

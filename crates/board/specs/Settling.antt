@@ -1,5 +1,5 @@
 -- Settling: the log of records, the newest first, that the rounds reach, and the reading that a settled log holds.
-use Rattle.std.specs.Prelude.{◌≡◌, ℕ, zero, suc, ◌<◌, ◌≤◌, false, ◌⊎◌, List, [], ◌∷◌, ◌++◌, map, Some, None, Option, ◌≢◌}
+use Rattle.std.specs.Prelude.{◌≡◌, ℕ, zero, suc, ◌<◌, ◌≤◌, false, ◌⊎◌, List, [], ◌∷◌, ◌++◌, map, None, Option, ◌≢◌}
 use Rattle.std.specs.Option.{option_to_list}
 use Rattle.costs.specs.Meaning.{Meaning, NoDearer}
 use Rattle.board.specs.declared.moves.Move.{Move}

@@ -5,7 +5,7 @@
 pub(crate) const MOST_PLACES: usize = 64;
 
 // Pairs of places, so records of a log, and calls that one record stands inside, at most.
-pub(crate) const PAIRS: usize = MOST_PLACES * MOST_PLACES;
+pub(crate) const MOST_PAIRS: usize = MOST_PLACES * MOST_PLACES;
 
 // Rows at most.
 pub(crate) const MOST_ROWS: usize = 128;

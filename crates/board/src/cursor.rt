@@ -4,7 +4,7 @@ ghost use Rattle.board.specs.Logs.{Spells};
 ghost use Rattle.board.specs.Spelled.{moves_at};
 ghost use Rattle.board.specs.Cursors.{Walks, remaining};
 
-use crate::bounds::PAIRS;
+use crate::bounds::MOST_PAIRS;
 use crate::log::{Derivation, Log};
 use crate::moves::Move;
 use arrayvec::ArrayVec;
@@ -20,7 +20,7 @@ pub(crate) struct Pending {
 #[derive(Drop)]
 pub(crate) struct Cursor {
     at: usize,
-    stack: ArrayVec<Pending, PAIRS>,
+    stack: ArrayVec<Pending, MOST_PAIRS>,
 }
 
 impl Cursor {

@@ -3,7 +3,7 @@ ghost use Rattle.std.specs.Prelude.{◌≡◌, ◌<◌, min, length, None as ANo
 ghost use Rattle.board.specs.Logs.{Spells, pushed, empty, Refers};
 ghost use Rattle.board.specs.Logged.{spelled, records};
 
-use crate::bounds::{MANY_MOVES, PAIRS};
+use crate::bounds::{MANY_MOVES, MOST_PAIRS};
 use crate::moves::{Move, Place};
 
 // How a record came about: from nothing, by one step more, or by one call more. `front` and `inside` are the numbers
@@ -32,10 +32,10 @@ pub(crate) struct Record {
 // would take a pair apart.)
 #[derive(Drop)]
 pub(crate) struct Log {
-    pub records: [Record; PAIRS],
+    pub records: [Record; MOST_PAIRS],
     pub count: usize,
-    pub index: [Option<u16>; PAIRS],
-    pub lengths: [u32; PAIRS],
+    pub index: [Option<u16>; MOST_PAIRS],
+    pub lengths: [u32; MOST_PAIRS],
 }
 
 const BLANK: Record = Record {
@@ -51,16 +51,16 @@ impl Log {
         ensures { result ≡ empty }
     {
         Log {
-            records: [BLANK; PAIRS],
+            records: [BLANK; MOST_PAIRS],
             count: 0,
-            index: [None; PAIRS],
-            lengths: [0; PAIRS],
+            index: [None; MOST_PAIRS],
+            lengths: [0; MOST_PAIRS],
         }
     }
 
     // The number of the record of a pair, if it is settled.
     pub(crate) fn at(&self, pair: usize) -> Option<usize>
-        requires { pair < PAIRS }
+        requires { pair < MOST_PAIRS }
         ensures { result ≡ slice_index_or self.now.index pair ANone }
     {
         self.index[pair].map(usize::from)
@@ -68,8 +68,8 @@ impl Log {
 
     // Settles a pair by a record that spells out so many moves.
     pub(crate) fn push(&mut self, pair: usize, r: Record, moves: u32)
-        requires pair { pair < PAIRS }
-        requires room { self.old.count < PAIRS }
+        requires pair { pair < MOST_PAIRS }
+        requires room { self.old.count < MOST_PAIRS }
         ensures { self.new ≡ pushed self.old pair r moves }
     {
         let k = self.count;

@@ -2,7 +2,7 @@
 ghost use Rattle.board.specs.Held.{held};
 ghost use Rattle.board.specs.Logs.{Book, Book-prop};
 
-use crate::bounds::{MOST_PLACES, MOST_ROWS, PAIRS};
+use crate::bounds::{MOST_PAIRS, MOST_PLACES, MOST_ROWS};
 use crate::log::{Log, Record};
 use crate::moves::Place;
 use crate::tables::Tables;
@@ -24,7 +24,7 @@ pub(crate) use rounds::settled_log;
 // The least costs of candidates, and of those for unsettled pairs that start at each place.
 #[derive(Drop)]
 pub(crate) struct Waiting {
-    costs: [u32; PAIRS],
+    costs: [u32; MOST_PAIRS],
     least: [u32; MOST_PLACES],
 }
 
@@ -36,7 +36,7 @@ pub(crate) struct Waiting {
 // `leads`, by row: whether it is the one to look at for costs among the rows of its sort, the cheapest, or the last of these.
 #[derive(Drop)]
 pub(crate) struct Minima {
-    links: [u32; PAIRS],
+    links: [u32; MOST_PAIRS],
     waiting: Waiting,
     leads: [bool; MOST_ROWS],
 }

@@ -24,7 +24,7 @@ pub struct Tables<K: Kind> {
 }
 
 impl<K: Kind> Tables<K> {
-    ghost use Rattle.std.specs.Prelude.{◌≡◌, ◌≢◌, ℕ, ◌*◌, ◌<◌, ◌≤◌, [], length};
+    ghost use Rattle.std.specs.Prelude.{◌≡◌, ◌≢◌, ℕ, ◌*◌, ◌^◌, ◌<◌, ◌≤◌, [], length};
     ghost use Rattle.std.specs.List.{slice_get};
     ghost use Rattle.costs.specs.Meaning.{Cost};
     ghost use Rattle.board.specs.Calls.{with_size, with_row, with_line, with_row_cost, with_line_cost, without_lines};
@@ -124,14 +124,14 @@ impl<K: Kind> Tables<K> {
     // The number of a place.
     pub(crate) fn place_number(&self, place: Place) -> usize
         ensures number { result ≡ place_number (held self.now) place }
-        ensures small { result < 65536 }
+        ensures small { result < 2 ^ 16 }
     {
         place.0 as usize * self.moments as usize + place.1 as usize
     }
 
     // The place that has the number.
     pub(crate) fn place(&self, number: usize) -> Place
-        requires { number < 256 }
+        requires { number < 2 ^ 8 }
         ensures number { place_number (held self.now) result ≡ number }
         ensures moment { result.1 < (held self.now).moments }
     {

@@ -57,8 +57,8 @@ first_broken (r ∷ rs) board = cond r.0 (Some r.1) (first_broken rs board)
 
 -- A header: cut short (20); the letter is not the kind's (21); a zero bit is 1 (22); trust is not 16 where it does not scale
 -- (23); then the board's, for the size (2).
-abbrev pub header_fault : Meaning → List ℕ → Option FileRefusal
-header_fault m bs =
+abbrev pub header_refusal : Meaning → List ℕ → Option FileRefusal
+header_refusal m bs =
     first_broken
     ((nat_lt (length bs) 4, CutShort)
     ∷ (not (field (word4 bs) 24 8 == m.letter), WrongLetter)
@@ -75,32 +75,32 @@ may_follow (Some rs) None None code = code == lines_code || code == note_code
 may_follow None None None code = code == rows_code || (code == lines_code || code == note_code)
 
 -- A section's head, unless the file ends: cut short (20); a section that may not come here (24).
-abbrev pub head_fault : Description → List ℕ → Option FileRefusal
-head_fault d bs =
+abbrev pub head_refusal : Description → List ℕ → Option FileRefusal
+head_refusal d bs =
     cond (length bs == 0) None
     (first_broken ((nat_lt (length bs) 2, CutShort) ∷ (not (may_follow d.rows d.lines d.note (head_code bs)), WrongSection) ∷ []) None)
 
 -- A row: cut short (20); a zero bit is 1 (22); then the board's, for adding it (3, 4, 5, 10).
-abbrev pub row_part_fault : Meaning → Content → List ℕ → Option FileRefusal
-row_part_fault m c bs =
+abbrev pub row_part_refusal : Meaning → Content → List ℕ → Option FileRefusal
+row_part_refusal m c bs =
     first_broken ((nat_lt (length bs) 8, CutShort) ∷ (not (field (word8 bs) 32 2 == 0), NotZero) ∷ []) (row_refusal m c (row_fields (word8 bs)))
 
 -- A line: cut short (20); a zero bit is 1 (22); then the board's, for adding it at its cost as trust has it (6, 7, 8, 10).
-abbrev pub line_part_fault : Meaning → ℕ → Content → List ℕ → Option FileRefusal
-line_part_fault m trust c bs =
+abbrev pub line_part_refusal : Meaning → ℕ → Content → List ℕ → Option FileRefusal
+line_part_refusal m trust c bs =
     first_broken ((nat_lt (length bs) 8, CutShort) ∷ (not (field (word8 bs) 32 12 == 0), NotZero) ∷ []) (line_refusal m c (trusted_line m trust (line_fields (word8 bs))))
 
 -- A note's bytes: cut short (20).
-abbrev pub note_fault : ℕ → List ℕ → Option FileRefusal
-note_fault n bs = first_broken ((nat_lt (length bs) n, CutShort) ∷ []) None
+abbrev pub note_refusal : ℕ → List ℕ → Option FileRefusal
+note_refusal n bs = first_broken ((nat_lt (length bs) n, CutShort) ∷ []) None
 
 -- the first rule that is broken by the part that is due, which bs begins with
-abbrev pub part_fault : Meaning → Due → List ℕ → Option FileRefusal
-part_fault m at_header bs = header_fault m bs
-part_fault m (at_head d) bs = head_fault d bs
-part_fault m (at_row d n) bs = row_part_fault m (content_of m d) bs
-part_fault m (at_line d n) bs = line_part_fault m d.trust (content_of m d) bs
-part_fault m (at_note d n) bs = note_fault n bs
+abbrev pub part_refusal : Meaning → Due → List ℕ → Option FileRefusal
+part_refusal m at_header bs = header_refusal m bs
+part_refusal m (at_head d) bs = head_refusal d bs
+part_refusal m (at_row d n) bs = row_part_refusal m (content_of m d) bs
+part_refusal m (at_line d n) bs = line_part_refusal m d.trust (content_of m d) bs
+part_refusal m (at_note d n) bs = note_refusal n bs
 
 -- The bytes up to the fault's place are described, within the limits as far as they go (a section's head may count more than may
 -- come), and the part there breaks the fault's rule.
@@ -110,7 +110,7 @@ pub record Declined (m : Meaning) (bytes : List ℕ) (f : LoadFault) : Type 0 wh
   pub rest : List ℕ
   pub laid_out : before due ++ rest ≡ bytes
   pub place : f.place ≡ length (before due)
-  pub broken : part_fault m due rest ≡ Some f.refusal
+  pub broken : part_refusal m due rest ≡ Some f.refusal
 
 -- A load declines, with a fault, exactly the files that break that rule at that place, and none before it.
 abbrev pub DeclinesExactly : Meaning → List ℕ → Result PartRead LoadFault → Type 0

@@ -1,7 +1,7 @@
 -- The layout of a file: what a file describes, how that is written in bytes, and the limits that it keeps.
-use Rattle.std.specs.Prelude.{◌≡◌, ℕ, zero, suc, ◌+◌, ◌-◌, ◌*◌, ◌/◌, ◌%◌, ◌^◌, ◌<◌, ◌≤◌, true, false, ◌↔◌, List, [], ◌∷◌, ◌++◌, map, length, Some, None, Ok, Option, Result}
+use Rattle.std.specs.Prelude.{◌≡◌, ℕ, zero, suc, ◌+◌, ◌-◌, ◌*◌, ◌/◌, ◌%◌, ◌^◌, ◌<◌, ◌≤◌, true, false, ◌↔◌, List, [], ◌∷◌, ◌++◌, map, length, Ok, Option, Result}
 use Rattle.std.specs.List.{flat_map, AllByRecursion, fold}
-use Rattle.std.specs.Option.{unwrap_or}
+use Rattle.std.specs.Option.{unwrap_or, option_map_or}
 use Rattle.costs.specs.Meaning.{Meaning, Cost}
 use Rattle.board.specs.Bounds.{most_places, most_rows, most_lines}
 use Rattle.board.specs.declared.row.Row.{Row}
@@ -74,8 +74,7 @@ section_begun code f n xs = in_bytes 2 (head_word code n) ++ flat_map f xs
 
 -- a section: all that it counts has come; an absent one has no head
 abbrev pub section_written : {A : Type 0} → ℕ → (A → List ℕ) → Option (List A) → List ℕ
-section_written code f None = []
-section_written code f (Some xs) = section_begun code f (length xs) xs
+section_written code f o = option_map_or (λ xs. section_begun code f (length xs) xs) o []
 
 -- the sections in their order
 abbrev pub sections_written : Option (List Row) → Option (List Line) → Option (List ℕ) → List ℕ
@@ -164,8 +163,7 @@ content_of m d =
 
 -- the note of a file of so many bytes, which ends it; without one an empty part at the file's end
 abbrev pub note_at_end : Option (List ℕ) → ℕ → PartRead
-note_at_end None size = record { bytes = []; place = size }
-note_at_end (Some bs) size = record { bytes = bs; place = size - length bs }
+note_at_end note size = option_map_or (λ bs. record { bytes = bs; place = size - length bs }) note (record { bytes = []; place = size })
 
 abbrev pub note_of : Description → PartRead
 note_of d = note_at_end d.note (length (written d))

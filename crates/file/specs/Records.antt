@@ -1,5 +1,6 @@
 -- Records of rows and lines, handed to the board one after the other.
-use Rattle.std.specs.Prelude.{ℕ, zero, suc, ◌+◌, cond, List, length, drop, Some, None, Ok, Err, Option, Result, nat_lt}
+use Rattle.std.specs.Prelude.{ℕ, zero, suc, ◌+◌, cond, List, length, drop, Ok, Err, Option, Result, nat_lt}
+use Rattle.std.specs.Option.{option_map_or}
 use Rattle.std.specs.Result.{result_map_both}
 use Rattle.costs.specs.Meaning.{Meaning}
 use Rattle.board.specs.declared.refusal.Refusal.{Refusal}
@@ -25,8 +26,7 @@ at_place r place = result_map_both (λ x. x) (λ e. fault_at e place) r
 
 -- what a call of the board leaves, or its refusal
 abbrev pub called : Option Refusal → Content → Result Content FileRefusal
-called None after = Ok after
-called (Some e) after = Err (Board e)
+called o after = option_map_or (λ e. Err (Board e)) o (Ok after)
 
 -- the board with the row added, or the board's refusal
 unfoldable pub row_added : Meaning → Content → Row → Result Content FileRefusal

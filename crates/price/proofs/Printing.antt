@@ -6,7 +6,7 @@ use Rattle.std.proofs.lemmas.List.{drop_more}
 use Rattle.words.specs.Pieces.{pieces_of, NoSeparator}
 use Rattle.price.specs.Lines.{LineAnswer, line_answer}
 use Rattle.price.specs.Printed.{answer_printed, line_printed, input_printed, LineByLine}
-use Rattle.words.specs.Laws.{WordLaws}
+use Rattle.words.specs.Laws.{WordsCutAndReadBack}
 
 -- what was printed of an outcome that is the line's answer
 pub appended : (out new line : List ℕ) (o : Option LineAnswer) → IfSome o (λ a. a ≡ line_answer line) → IsSomeAnd o (λ a. new ≡ out ++ answer_printed a) → new ≡ out ++ line_printed line
@@ -26,7 +26,7 @@ joined_append [] ys = refl
 joined_append (x ∷ xs) ys =
     ap (λ l. line_printed x ++ l) (joined_append xs ys) ∙ sym (append_assoc (line_printed x) (flat_map line_printed xs) (flat_map line_printed ys))
 
-module _ (laws : WordLaws) where
+module _ (laws : WordsCutAndReadBack) where
   one_line : (line : List ℕ) → NoSeparator is_newline line → input_printed line ≡ line_printed line
   one_line [] uncut = refl
   one_line (b ∷ bs) uncut = ap (flat_map line_printed) ((laws.cuts is_newline).one b bs uncut) ∙ append-nil (line_printed (b ∷ bs))

@@ -10,7 +10,7 @@ use Rattle.words.specs.Numbers.{u32_max}
 use Rattle.words.specs.Pieces.{spacing, pieces_of, NoSeparator}
 use Rattle.std.specs.Str.Lines.{strip_carriage_return}
 use Rattle.price.specs.Lines.{kind_with_letter, cost_before, read_costs, costs_answer, kind_answer, words_answer, written_costs, Of32Bits, CostsReadBack}
-use Rattle.words.specs.Laws.{WordLaws}
+use Rattle.words.specs.Laws.{WordsCutAndReadBack}
 
 -- a carriage return
 abbrev returns : ℕ → Bool
@@ -38,7 +38,7 @@ not_return b high = ne_eqb b 13 (λ e. omega arith)
 letter_high : (l : ℕ) (m : Meaning) → kind_with_letter l ≡ Some m → 80 ≤ l
 letter_high l m e = grind (arith, nat_tests)
 
-module _ (laws : WordLaws) where
+module _ (laws : WordsCutAndReadBack) where
   one_piece : (w : List ℕ) → 0 < length w → NoSeparator spacing w → pieces_of spacing w ≡ w ∷ []
   one_piece [] some uncut = absurd (omega arith)
   one_piece (b ∷ bs) some uncut = (laws.cuts spacing).one b bs uncut

@@ -1,5 +1,6 @@
 -- What `least` prints of a file: the text that a relation allows, by what load answers and which reading is the recorded one.
-use Rattle.std.specs.Prelude.{◌≡◌, ℕ, ◌<◌, ◌≤◌, ◌↔◌, cond, ◌==◌, List, [], ◌∷◌, ◌++◌, length, take, Some, None, Ok, Err, codes, decimal, Option, slice_index_or}
+use Rattle.std.specs.Prelude.{◌≡◌, ℕ, ◌<◌, ◌≤◌, ◌↔◌, cond, ◌==◌, List, [], ◌∷◌, ◌++◌, length, take, Ok, Err, codes, decimal, Option, slice_index_or}
+use Rattle.std.specs.Option.{option_map_or}
 use Rattle.std.proofs.Math.Utf8.{encode}
 use Rattle.std.specs.Io.KnownBytes.{Appends}
 use Rattle.costs.specs.Meaning.{Meaning}
@@ -38,8 +39,7 @@ cost_line letter cost moves = encode letter ++ (codes " " ++ (decimal cost ++ (c
 
 -- a move's line in digits, or `-`
 abbrev pub line_column : Option ℕ → List ℕ
-line_column (Some j) = decimal j
-line_column None = codes "-"
+line_column line = option_map_or decimal line (codes "-")
 
 -- the line of a move by that row: the row's number, the move's line or `-`, and the row's action
 abbrev pub move_line : Move → Row → List ℕ

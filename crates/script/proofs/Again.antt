@@ -17,7 +17,7 @@ use Rattle.words.specs.Hex.{then_digit, bytes_of, hex_on, hex_number_of}
 use Rattle.words.specs.Numbers.{is_number, number_of, number_before, numbers_of}
 use Rattle.words.specs.Pieces.{spacing, has_byte, pieces_of, NoSeparator}
 use Rattle.words.specs.Splits.{split_of}
-use Rattle.words.specs.Laws.{WordLaws}
+use Rattle.words.specs.Laws.{WordsCutAndReadBack}
 use Rattle.script.specs.Commands.{Command, kind}
 use Rattle.script.specs.declared.check.Repeat.{Repeat}
 use Rattle.script.specs.declared.name.Name.{Name}
@@ -121,7 +121,7 @@ repeat_some None p r e = absurd cc
 repeat_some (Some n) None r e = absurd cc
 repeat_some (Some n) (Some k) r e = (n, refl, k, refl)
 
-module _ (laws : WordLaws) where
+module _ (laws : WordsCutAndReadBack) where
   repeat_free : (w : List ℕ) (r : Repeat) → repeat_of w ≡ Some r → Free w
   repeat_free w r e = by (split_of (codes "*") w) refl e
     where
@@ -136,7 +136,7 @@ repeats_some None p ms e = absurd cc
 repeats_some (Some r) None ms e = absurd cc
 repeats_some (Some r) (Some ks) ms e = (r, refl, ks, refl)
 
-repeats_free : WordLaws → (ws : List (List ℕ)) (ms : List ℕ) → repeats_of ws ≡ Some ms → AllFree ws
+repeats_free : WordsCutAndReadBack → (ws : List (List ℕ)) (ms : List ℕ) → repeats_of ws ≡ Some ms → AllFree ws
 repeats_free laws [] ms e = tt
 repeats_free laws (w ∷ ws) ms e = let s = repeats_some (repeat_of w) (repeats_of ws) ms e in (repeat_free laws w s.0 s.1, repeats_free laws ws s.2 s.3)
 
@@ -174,13 +174,13 @@ file_free (w ∷ v ∷ ws) y e = absurd cc
 rows_free : (ws : List (List ℕ)) (y : Command) → row_command ws ≡ Some y → AllFree ws
 rows_free ws y e = option_and_then_some row_from (numbers_of row_number_limits ws) y e (λ ns is made. numbers_free row_number_limits ws ns is)
 
-moves_free : WordLaws → (ws : List (List ℕ)) (y : Command) → check_command ws ≡ Some y → AllFree ws
+moves_free : WordsCutAndReadBack → (ws : List (List ℕ)) (y : Command) → check_command ws ≡ Some y → AllFree ws
 moves_free laws ws y e =
     let m = mapped _ (moves_of ws) y e in
     let r = short_list (repeats_of ws) m.0 m.1 in
     repeats_free laws ws r.0 r.1
 
-command_free : WordLaws → (n : Name) (ws : List (List ℕ)) (y : Command) → command_named n ws ≡ Some y → AllFree ws
+command_free : WordsCutAndReadBack → (n : Name) (ws : List (List ℕ)) (y : Command) → command_named n ws ≡ Some y → AllFree ws
 command_free laws name.Kind ws y e = kind_free ws y e
 command_free laws name.Size ws y e = numbered_free _ two_wide ws y e
 command_free laws name.Row ws y e = rows_free ws y e
@@ -226,7 +226,7 @@ name_free w n e =
     (λ e. absurd cc)))))))))))))) e
 
 -- the words of a line that says a command
-module _ (laws : WordLaws) (w : List ℕ) (ws : List (List ℕ)) (c : Command) where
+module _ (laws : WordsCutAndReadBack) (w : List ℕ) (ws : List (List ℕ)) (c : Command) where
   said_free : (n : Name) → name_of w ≡ Some n → (o : Option Command) → command_named n ws ≡ o → command_parsed o ≡ command c → AllFree (w ∷ ws)
   said_free n named None at e = absurd cc
   said_free n named (Some y) at e = (name_free w n named, command_free laws n ws y at)
@@ -239,11 +239,11 @@ module _ (laws : WordLaws) (w : List ℕ) (ws : List (List ℕ)) (c : Command) w
   first_words true e = absurd cc
   first_words false e = named_words (name_of w) refl e
 
-words_free : WordLaws → (ws : List (List ℕ)) (c : Command) → words_parsed ws ≡ command c → AllFree ws
+words_free : WordsCutAndReadBack → (ws : List (List ℕ)) (c : Command) → words_parsed ws ≡ command c → AllFree ws
 words_free laws [] c e = absurd cc
 words_free laws (w ∷ ws) c e = first_words laws w ws c (is_comment w) e
 
-pub said_again : WordLaws → (line answer : List ℕ) (c : Command) → line_parsed line ≡ command c → line_parsed (script_part_of line ++ (codes " -> " ++ answer)) ≡ command c
+pub said_again : WordsCutAndReadBack → (line answer : List ℕ) (c : Command) → line_parsed line ≡ command c → line_parsed (script_part_of line ++ (codes " -> " ++ answer)) ≡ command c
 said_again laws line answer c e =
     let part = script_part_of line in
     line_answered laws part answer (pieces_free part (words_free laws (pieces_of spacing part) c e)) ∙ e

@@ -9,7 +9,7 @@ use Rattle.board.specs.Content.{new}
 use Rattle.file.specs.declared.call.Call.{Call}
 use Rattle.file.specs.States.{State, draft, stepped, state_from, state_after}
 use Rattle.words.specs.Pieces.{pieces_of}
-use Rattle.words.specs.Laws.{WordLaws}
+use Rattle.words.specs.Laws.{WordsCutAndReadBack}
 use Rattle.script.specs.Commands.{Command, kind, on_board}
 use Rattle.script.specs.Script.{script_part_of, line_parsed, LineParsed}
 use Rattle.script.specs.Written.{written_line, Fits}
@@ -35,7 +35,7 @@ abbrev at : KindName → State → Option SessionState
 at k s = Some (record { kind = k; state = s })
 
 -- lines of commands
-module _ (laws : WordLaws) where
+module _ (laws : WordsCutAndReadBack) where
   -- the line of a command
   command_line : (s : Option SessionState) (c : Command) → Fits c → line_text s (script_part_of (written_line c)) (line_parsed (written_line c)) ≡ written_line c ++ (command_text s c ++ codes "\n")
   command_line s c fits = ap₂ (line_text s) (whole_line laws c fits) ((reads_written laws).alone c fits)
@@ -66,7 +66,7 @@ fits_on : (cs : List Command) (c : Command) → AllByRecursion Fits cs → Fits 
 fits_on [] c fits last = (last, tt)
 fits_on (b ∷ cs) c fits last = (fits.0, fits_on cs c fits.1 last)
 
-pub prints_answers : WordLaws → PrintsAnswers
+pub prints_answers : WordsCutAndReadBack → PrintsAnswers
 prints_answers laws = record {
   begins = λ k. named_first laws k [] tt;
   one_more = λ k before xs c x fits same last is.

@@ -4,7 +4,7 @@ use Rattle.std.proofs.lemmas.Bool.{cond-true, cond-false, cases_Bool, eqb-false,
 use Rattle.words.specs.Pieces.{spacing, pieces_of, NoSeparator}
 use Rattle.words.specs.Splits.{after_mark, longer, split_here, split_of}
 use Rattle.words.specs.Trims.{trimmed_of}
-use Rattle.words.specs.Laws.{WordLaws}
+use Rattle.words.specs.Laws.{WordsCutAndReadBack}
 use Rattle.script.specs.Script.{before_split, words_parsed, line_parsed}
 use Rattle.script.proofs.Unreserved.{point, star}
 
@@ -60,7 +60,7 @@ pub no_arrow_split : (xs : List ℕ) → NoSeparator point xs → split_of arrow
 no_arrow_split xs free = ap (split_of arrow) (sym (append-nil xs)) ∙ split_tail [] refl refl xs free
 
 -- it says what its words say, and so it does with an answer behind an arrow
-module _ (laws : WordLaws) where
+module _ (laws : WordsCutAndReadBack) where
   pub line_alone : (xs : List ℕ) → NoSeparator point xs → line_parsed xs ≡ words_parsed (pieces_of spacing xs)
   line_alone xs free =
       ap (λ o. words_parsed (pieces_of spacing (trimmed_of spacing (before_split xs o)))) (no_arrow_split xs free)

@@ -6,7 +6,7 @@ use Rattle.std.proofs.lemmas.List.{reverse-append, reverse-reverse, length-rever
 use Rattle.std.proofs.lemmas.Bool.{cond-false}
 use Rattle.words.specs.Pieces.{spacing, pieces_of, NoSeparator}
 use Rattle.words.specs.Trims.{without_front, without_back, trimmed_of}
-use Rattle.words.specs.Laws.{WordLaws}
+use Rattle.words.specs.Laws.{WordsCutAndReadBack}
 use Rattle.script.specs.Commands.{Command}
 use Rattle.script.specs.Script.{before_split, script_part_of}
 use Rattle.script.specs.Written.{spaced, name_word, words_after, written_line, Fits}
@@ -16,7 +16,7 @@ use Rattle.script.proofs.Arrows.{no_arrow_split}
 use Rattle.script.proofs.Writing.{unreserved_name, unreserved_words, written_without, unpointed}
 
 -- separators at neither end are none to take away
-module _ (laws : WordLaws) (sep : ℕ → Bool) where
+module _ (laws : WordsCutAndReadBack) (sep : ℕ → Bool) where
   front_kept : (w xs : List ℕ) → 0 < length w → NoSeparator sep w → without_front sep (w ++ xs) ≡ w ++ xs
   front_kept [] xs some free = absurd (omega (arith, some))
   front_kept (b ∷ w) xs some free = cond-false _ _ _ free.0
@@ -33,7 +33,7 @@ module _ (laws : WordLaws) (sep : ℕ → Bool) where
       ∙ reverse-reverse (xs ++ w)
 
 -- lines of commands
-module _ (laws : WordLaws) where
+module _ (laws : WordsCutAndReadBack) where
   -- a line of unreserved words is not trimmed
   line_kept : (w : List ℕ) (ws : List (List ℕ)) → Unreserved w → AllByRecursion Unreserved ws → trimmed_of spacing (w ++ spaced ws) ≡ w ++ spaced ws
   unfolding trimmed_of

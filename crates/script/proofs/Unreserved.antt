@@ -10,7 +10,7 @@ use Rattle.hex.specs.Hex.{hex_digit_value, lower_digits, encode_with}
 use Rattle.hex.proofs.HexLemmas.{length-encode_with, IsDigits-lower_digits}
 use Rattle.words.specs.Hex.{written_bytes, written_u16}
 use Rattle.words.specs.Pieces.{spacing, pieces_of, NoSeparator}
-use Rattle.words.specs.Laws.{WordLaws}
+use Rattle.words.specs.Laws.{WordsCutAndReadBack}
 use Rattle.costs.specs.Names.{letter_of}
 use Rattle.costs.specs.declared.kind_name.KindName.{KindName}
 use Rattle.costs.specs.declared.kind_name.KindName.TheVariants.{Points, Severity, Rank}
@@ -79,7 +79,7 @@ free_digits (d ∷ ds) digits =
     let both = and_parts (is_ascii_digit d) (all_ascii_digits ds) digits in
     (free_digit d both.0, free_digits ds both.1)
 
-module _ (laws : WordLaws) where
+module _ (laws : WordsCutAndReadBack) where
   pub unreserved_decimal : (n : ℕ) → n < 2 ^ 64 → Unreserved (decimal n)
   unreserved_decimal n small = (decimal_nonempty n small, free_digits (decimal n) (laws.digits n small))
 
@@ -111,7 +111,7 @@ pub unreserved_letter : (k : KindName) → Unreserved (letter_of k ∷ [])
 unreserved_letter k = (omega arith, (free_letter k, tt))
 
 -- pieces of lines
-module _ (laws : WordLaws) where
+module _ (laws : WordsCutAndReadBack) where
   -- bytes with no separator are one piece
   pub one_piece : (sep : ℕ → Bool) (bs : List ℕ) → 0 < length bs → NoSeparator sep bs → pieces_of sep bs ≡ bs ∷ []
   one_piece sep [] some uncut = absurd (omega (arith, some))
@@ -129,7 +129,7 @@ module _ (laws : WordLaws) where
       ∙ ap (λ ps. w ∷ ps) (spaced_pieces v ws others.0 others.1)
 
 -- a byte, besides a space, that no word has is not in the line
-module _ (laws : WordLaws) (also : ℕ → Bool) (rules : (b : ℕ) → reserved b ≡ false → also b ≡ false) (space : also 32 ≡ false) where
+module _ (laws : WordsCutAndReadBack) (also : ℕ → Bool) (rules : (b : ℕ) → reserved b ≡ false → also b ≡ false) (space : also 32 ≡ false) where
   word_without : (w : List ℕ) → Unreserved w → NoSeparator also w
   word_without w free = fewer reserved also rules w free.1
 

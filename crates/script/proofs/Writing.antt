@@ -14,7 +14,7 @@ use Rattle.hex.specs.Hex.{decode_pairs}
 use Rattle.words.specs.Hex.{written_u16}
 use Rattle.words.specs.Numbers.{number_before, numbers_of}
 use Rattle.words.specs.Pieces.{spacing, pieces_of, NoSeparator}
-use Rattle.words.specs.Laws.{WordLaws}
+use Rattle.words.specs.Laws.{WordsCutAndReadBack}
 use Rattle.script.specs.Commands.{Command, kind, size, row, line, reprice_row, reprice_line, clear, load, settle, reopen, cost, path, between, check}
 use Rattle.script.specs.Forms.{longest_list, two_wide, row_number_limits, line_number_limits, kind_word, two_numbers_command, row_from, line_from, load_command}
 use Rattle.script.specs.Names.{spells}
@@ -30,7 +30,7 @@ abbrev UpTo : List ℕ → List ℕ → Type 0
 UpTo limits ns = AllZip (λ limit n. n ≤ limit) limits ns
 
 -- numbers and moves
-module _ (laws : WordLaws) where
+module _ (laws : WordsCutAndReadBack) where
   -- decimal numbers
   numbers_back : (limits ns : List ℕ) → AllByRecursion (λ m. m < 2 ^ 64) limits → UpTo limits ns → numbers_of limits (map decimal ns) ≡ Some ns
   numbers_back [] [] wide fits = refl
@@ -94,7 +94,7 @@ unreserved_names (check ms) = refl
 pub unreserved_name : (c : Command) → Unreserved (name_word c)
 unreserved_name c = unreserved_text (name_word c) (unreserved_names c)
 
-module _ (laws : WordLaws) where
+module _ (laws : WordsCutAndReadBack) where
   unreserved_file : (bs : List ℕ) → AllByRecursion (λ b. b < 2 ^ 8) bs → AllByRecursion Unreserved (file_words bs)
   unreserved_file [] small = tt
   unreserved_file (b ∷ bs) small = (unreserved_bytes b bs small, tt)
@@ -131,7 +131,7 @@ kind_back End = refl
 abbrev with_kind : Row → RowKind → Command
 with_kind r k = row record { kind = k; from = r.from; to = r.to; label = r.label; action = r.action; cost = r.cost }
 
-module _ (laws : WordLaws) where
+module _ (laws : WordsCutAndReadBack) where
   says_two : (make : ℕ → ℕ → Command) (a b : ℕ) → UpTo two_wide (a ∷ b ∷ []) → two_numbers_command make (map decimal (a ∷ b ∷ [])) ≡ Some (make a b)
   says_two make a b fits = ap (option_map (λ ns. make (get_or ns 0 0) (get_or ns 1 0))) (numbers_back laws two_wide (a ∷ b ∷ []) two_wide_fit fits)
 

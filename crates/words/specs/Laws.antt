@@ -7,7 +7,7 @@ use Rattle.words.specs.Splits.{SplitRejoins}
 use Rattle.words.specs.Numbers.{DecimalReadsBack}
 use Rattle.words.specs.Hex.{HexNumberReadsBack, HexBytesReadBack}
 
-pub record WordLaws : Type 0 where
+pub record WordsCutAndReadBack : Type 0 where
   -- the laws that fix the pieces, at whatever separators
   pub cuts : (sep : ℕ → Bool) → CuttingLaws sep
   -- two texts without separators have none one behind the other

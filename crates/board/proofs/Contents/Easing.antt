@@ -46,7 +46,7 @@ module _ {m : Meaning} {c c' : Content} (laws : Lawful m) (sound : Sound m c) (s
         is_plain = ease.kind_same ∙ s.is_plain;
         some_event = λ h. s.some_event (sym ease.label_same ∙ h);
         same_event = el.event_same ∙ s.same_event ∙ sym ease.label_same;
-        start = s.start ∙ sym el.from_same;
+        depart = s.depart ∙ sym el.from_same;
         arrive = s.arrive ∙ sym el.to_same;
         price = refl;
       } in (

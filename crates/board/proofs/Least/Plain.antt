@@ -82,7 +82,7 @@ module _ {m : Meaning} {c : Content} (laws : Lawful m) (sound : Sound m c) where
           let move : v ≡ bare row = move_eq v (bare row) same s.alone in
           inl (moment x.place, s.there, record { exit = x.exit; goes = subst (λ (z : Place). Transition m c (bare row) z x.exit k Quiet) place (subst (λ (z : Move). Transition m c z x.place x.exit k Quiet) move x.goes); at = x.at ∙ ap (λ (z : Place). pair_of c z x.exit) place }))
           (λ s.
-          let place : x.place ≡ (r.from, s.taken.from) = place_eq x.place (r.from, s.taken.from) (by_mode same x.goes) s.start in
+          let place : x.place ≡ (r.from, s.taken.from) = place_eq x.place (r.from, s.taken.from) (by_mode same x.goes) s.depart in
           let move : v ≡ record { row = row; line = Some s.number } = move_eq v (record { row = row; line = Some s.number }) same s.along in
           inr (s.number, slice_get_within c.lines s.number s.taken s.found, (s.taken, s.found, record { exit = x.exit; goes = subst (λ (z : Place). Transition m c (record { row = row; line = Some s.number }) z x.exit k Quiet) place (subst (λ (z : Move). Transition m c z x.place x.exit k Quiet) move x.goes); at = x.at ∙ ap (λ (z : Place). pair_of c z x.exit) place })))
           x.goes.time

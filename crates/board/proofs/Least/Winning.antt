@@ -216,7 +216,7 @@ module _ {m : Meaning} {c : Content} {l : Log} (laws : Lawful m) (ready : Ready 
       pub along_starts : (p : Place) (k : ℕ) → Transition m c (record { row = row; line = Some (get_or lines i 0) }) p g.to k Quiet → p ≡ (r.from, w.from)
       along_starts p k t = place_eq p (r.from, w.from) (t.leaves ∙ ap (λ (z : Row). z.from) (row_of refl t)) (⊎_elim
           (λ u. absurd (none_some _ _ u.alone refl))
-          (λ u. let n : get_or lines i 0 ≡ u.number = some_eq _ _ _ refl u.along in u.start ∙ ap (λ (z : Line). z.from) (some_eq _ _ _ u.found (ap (slice_get c.lines) (sym n) ∙ line_is)))
+          (λ u. let n : get_or lines i 0 ≡ u.number = some_eq _ _ _ refl u.along in u.depart ∙ ap (λ (z : Line). z.from) (some_eq _ _ _ u.found (ap (slice_get c.lines) (sym n) ∙ line_is)))
           t.time)
 
       pub no_same_event : (w.event ≡ r.label → ⊥) → Finds m c l g (IsStepOf (record { row = row; line = Some (get_or lines i 0) })) None

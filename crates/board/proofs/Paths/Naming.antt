@@ -69,7 +69,7 @@ module _ (m : Meaning) (c : Content) (v : Move) (p : Place) where
   along_goes : (r : Row) (l : Line) (j : ℕ) → slice_get c.rows v.row ≡ Some r → slice_get c.lines j ≡ Some l → v.line ≡ Some j → r.kind ≡ Plain → (r.label ≡ 0 → ⊥) → l.event ≡ r.label → starts_at c.moments (along r l) p ≡ true → Going (along r l)
   along_goes r l j found held with is_plain some_event same s =
       let z = and_parts _ _ s in
-      record { by = r; found = found; leaves = eqb-true _ _ z.0; enters = refl; does = refl; time = inr (record { number = j; taken = l; along = with; found = held; is_plain = is_plain; some_event = some_event; same_event = same; start = eqb-true _ _ z.1; arrive = refl; price = refl }) }
+      record { by = r; found = found; leaves = eqb-true _ _ z.0; enters = refl; does = refl; time = inr (record { number = j; taken = l; along = with; found = held; is_plain = is_plain; some_event = some_event; same_event = same; depart = eqb-true _ _ z.1; arrive = refl; price = refl }) }
 
   by_line : (r : Row) (n : Named) (j : ℕ) (o : Option Line) → slice_get c.rows v.row ≡ Some r → slice_get c.lines j ≡ o → v.line ≡ Some j → r.kind ≡ Plain → (r.label ≡ 0 → ⊥) → named_line r o ≡ Some n → starts_at c.moments n p ≡ true → Going n
   by_line r n j None found held with is_plain some_event e s = absurd (none-some n e)
@@ -124,7 +124,7 @@ module _ (m : Meaning) (c : Content) (v : Move) (p q : Place) (k : ℕ) (e : Eff
         ∙ cond-true _ _ _ (ap (λ z. takes_line z r.label) s.is_plain ∙ not_from_false _ (ne_eqb _ _ s.some_event))
         ∙ ap (named_line r) s.found
         ∙ cond-true _ _ _ (eq-eqb _ _ s.same_event);
-    starts = and_from _ _ (eq-eqb _ _ leaves) (eq-eqb _ _ s.start);
+    starts = and_from _ _ (eq-eqb _ _ leaves) (eq-eqb _ _ s.depart);
     leads_on = arrival_eq _ _ (sym enters) (sym s.arrive) (sym s.price) (sym does);
   }
 

@@ -23,7 +23,7 @@ module _ {m : Meaning} {c : Content} (sound : Sound m c) where
     transition_from =
         let h = (sound.sound_rows _ _ g.found).from_in in
         let mode-in : mode p < c.modes = omega (arith, g.leaves) in
-        let moment-in : moment p < c.moments = ⊎_elim (λ s. s.there) (λ s. omega (arith, s.start, (sound.sound_lines s.number s.taken s.found).from_in)) g.time in
+        let moment-in : moment p < c.moments = ⊎_elim (λ s. s.there) (λ s. omega (arith, s.depart, (sound.sound_lines s.number s.taken s.found).from_in)) g.time in
         (mode-in, moment-in)
 
     -- and leads to one

@@ -79,16 +79,16 @@ module _ {m : Meaning} {c : Content} (laws : Lawful m) (sound : Sound m c) {log 
       let h = between_some c log s q a e in
       let n = joins_parts c a s q h.1 in
       let on = promised.0.placed a h.0 in
-      record { pair = record { first = a.from; second = a.to; first_on = on.0; second_on = on.1; first_number = n.0; second_number = n.1 }; least = promised.0.least a h.0; below = promised.0.below a h.0 }
+      record { pair = record { from = a.from; to = a.to; from_on = on.0; to_on = on.1; from_number = n.0; to_number = n.1 }; least = promised.0.least a h.0; below = promised.0.below a h.0 }
 
-  none_joins : (s q : ℕ) → record_between c log s q ≡ None → (p : Pair c s q) (vs : List Move) (k : ℕ) → BalancedPath m c vs p.first p.second k → NoDearer m m.worst k
+  none_joins : (s q : ℕ) → record_between c log s q ≡ None → (p : Pair c s q) (vs : List Move) (k : ℕ) → BalancedPath m c vs p.from p.to k → NoDearer m m.worst k
   none_joins s q e p vs k path = by (m.no_dearer m.worst k) refl
     where
       by : (t : Bool) → m.no_dearer m.worst k ≡ t → NoDearer m m.worst k
       by true f = f
       by false f =
-          let w = promised.0.minimal vs p.first p.second k p.first_on path f in
-          absurd (none_some _ _ e (between_is laws sound d.reached w.held s q w.logged (ap (place_number c) w.leaves ∙ p.first_number) (ap (place_number c) w.enters ∙ p.second_number)))
+          let w = promised.0.minimal vs p.from p.to k p.from_on path f in
+          absurd (none_some _ _ e (between_is laws sound d.reached w.held s q w.logged (ap (place_number c) w.leaves ∙ p.from_number) (ap (place_number c) w.enters ∙ p.to_number)))
 
   -- the place of a number
   place_of : (n : ℕ) → n < c.modes * c.moments → (p : Place) × On c p × (place_number c p ≡ n)
@@ -100,9 +100,9 @@ module _ {m : Meaning} {c : Content} (laws : Lawful m) (sound : Sound m c) {log 
 
   no_pair : (s q : ℕ) → (leb (c.modes * c.moments) s || leb (c.modes * c.moments) q) ≡ true → Pair c s q → ⊥
   no_pair s q e p =
-      let a = place_below c p.first p.first_on in
-      let b = place_below c p.second p.second_on in
-      ⊎_elim (λ h. let k = leb-true (c.modes * c.moments) s h in omega (arith, p.first_number)) (λ h. let k = leb-true (c.modes * c.moments) q h in omega (arith, p.second_number)) (or_cases _ _ e)
+      let a = place_below c p.from p.from_on in
+      let b = place_below c p.to p.to_on in
+      ⊎_elim (λ h. let k = leb-true (c.modes * c.moments) s h in omega (arith, p.from_number)) (λ h. let k = leb-true (c.modes * c.moments) q h in omega (arith, p.to_number)) (or_cases _ _ e)
 
   -- numbers below the number of places stand for places
   the_pair : (s q : ℕ) → (leb (c.modes * c.moments) s || leb (c.modes * c.moments) q) ≡ false → Pair c s q
@@ -110,7 +110,7 @@ module _ {m : Meaning} {c : Content} (laws : Lawful m) (sound : Sound m c) {log 
       let z = or_parts _ _ e in
       let a = place_of s (leb-false _ _ z.0) in
       let b = place_of q (leb-false _ _ z.1) in
-      record { first = a.0; second = b.0; first_on = a.1; second_on = b.1; first_number = a.2; second_number = b.2 }
+      record { from = a.0; to = b.0; from_on = a.1; to_on = b.1; from_number = a.2; to_number = b.2 }
 
   record_by : (s q : ℕ) (o : Option Record) → Pair c s q → record_between c log s q ≡ o → BetweenIsLeast m c s q (recorded_cost o)
   record_by s q None p e = inr (refl, record { pair = p; none = none_joins s q e p })

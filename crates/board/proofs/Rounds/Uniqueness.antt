@@ -31,7 +31,7 @@ module _ {m : Meaning} {c : Content} where
   time_back r w t t' u k k' (inr p) (inr p') =
       let n = some_eq w _ _ p.along p'.along in
       let l : p.taken ≡ p'.taken = some_eq _ _ _ (ap (slice_get c.lines) (sym n) ∙ p.found) p'.found in
-      (p.start ∙ ap (λ (x : Line). x.from) l ∙ sym p'.start, p.price ∙ ap (λ (x : Line). m.join r.cost x.cost) l ∙ sym p'.price)
+      (p.depart ∙ ap (λ (x : Line). x.from) l ∙ sym p'.depart, p.price ∙ ap (λ (x : Line). m.join r.cost x.cost) l ∙ sym p'.price)
 
   pub transition_back : {v : Move} {p p' q : Place} {k k' : ℕ} {e e' : Effect} → Transition m c v p q k e → Transition m c v p' q k' e' → (p ≡ p') × (k ≡ k')
   transition_back {v} {p} {p'} {q} {k} {k'} g g' =

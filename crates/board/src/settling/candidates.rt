@@ -7,7 +7,7 @@ ghost use Rattle.board.specs.Minima.{CandidateAt, PlaceLeast, PlacesLeast};
 ghost use Rattle.board.specs.Minimizing.{WaitingOf, WaitingLower};
 ghost use Rattle.board.specs.Winning.{LeastFrom, LeastOf};
 
-use crate::bounds::{MOST_PLACES, PAIRS};
+use crate::bounds::{MOST_PAIRS, MOST_PLACES};
 use crate::log::Log;
 use crate::settling::lower::lower;
 use crate::settling::{Known, Waiting};
@@ -33,9 +33,9 @@ impl<K: Kind> Known<'_, K> {
     // The cheapest of the unsettled pairs from the place numbered s, found anew.
     pub(crate) fn renew(&self, s: usize, waiting: &mut Waiting)
         requires from { s < MOST_PLACES }
-        requires long { length waiting.old.costs ≡ PAIRS }
+        requires long { length waiting.old.costs ≡ MOST_PAIRS }
         requires least_long { length waiting.old.least ≡ MOST_PLACES }
-        requires costs { (p : ℕ) → p < PAIRS → Cost K.meaning (slice_index waiting.old.costs p) }
+        requires costs { (p : ℕ) → p < MOST_PAIRS → Cost K.meaning (slice_index waiting.old.costs p) }
         requires others { (t : ℕ) → t < MOST_PLACES → t ≢ s → PlaceLeast K.meaning self.now.log.now waiting.old.costs t MOST_PLACES (slice_index waiting.old.least t) }
         ensures costs { waiting.new.costs ≡ waiting.old.costs }
         ensures places { PlacesLeast K.meaning self.now.log.now waiting.new }
@@ -70,10 +70,10 @@ fn least_from<K: Kind>(waiting: &Waiting) -> Option<usize>
 
 // Of the unsettled pairs that of the least cost below the worst, the first where some tie.
 pub(crate) fn least_pair<K: Kind>(log: &Log, waiting: &Waiting) -> Option<usize>
-    requires long { length waiting.now.costs ≡ PAIRS }
-    requires costs { (p : ℕ) → p < PAIRS → Cost K.meaning (slice_index waiting.now.costs p) }
+    requires long { length waiting.now.costs ≡ MOST_PAIRS }
+    requires costs { (p : ℕ) → p < MOST_PAIRS → Cost K.meaning (slice_index waiting.now.costs p) }
     requires places { PlacesLeast K.meaning log.now waiting.now }
-    ensures { LeastOf K.meaning log.now waiting.now.costs PAIRS result }
+    ensures { LeastOf K.meaning log.now waiting.now.costs MOST_PAIRS result }
 {
     let Some(s) = least_from::<K>(waiting) else {
         return None;

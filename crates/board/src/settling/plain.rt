@@ -4,7 +4,7 @@ ghost use Rattle.board.specs.Held.{held};
 ghost use Rattle.board.specs.Lowering.{Attained, Lowered};
 ghost use Rattle.board.specs.Minima.{PlainLink, PlainlyFrom, PlainlyBy};
 
-use crate::bounds::PAIRS;
+use crate::bounds::MOST_PAIRS;
 use crate::moves::{Effect, Move, Place};
 use crate::settling::lower::lower;
 use crate::tables::Tables;
@@ -13,7 +13,7 @@ use costs::Kind;
 impl<K: Kind> Tables<K> {
     // Lowers the link that the move makes from the place, if it starts there and has no bracket.
     fn link_from(&self, v: Move, place: Place, links: &mut [u32])
-        requires long { length links.old ≡ PAIRS }
+        requires long { length links.old ≡ MOST_PAIRS }
         requires ok { Attained K.meaning (PlainLink K.meaning (held self.now)) links.old }
         ensures { Lowered K.meaning (PlainLink K.meaning (held self.now)) links.old links.new (PlainlyFrom K.meaning (held self.now) v place) }
     {
@@ -26,7 +26,7 @@ impl<K: Kind> Tables<K> {
 
     // Lowers the links that the row makes, alone and with each line.
     fn links_by(&self, row: u8, links: &mut [u32])
-        requires long { length links.old ≡ PAIRS }
+        requires long { length links.old ≡ MOST_PAIRS }
         requires ok { Attained K.meaning (PlainLink K.meaning (held self.now)) links.old }
         ensures { Lowered K.meaning (PlainLink K.meaning (held self.now)) links.old links.new (PlainlyBy K.meaning (held self.now) row) }
     {
@@ -50,7 +50,7 @@ impl<K: Kind> Tables<K> {
 
     // Lowers the links by all moves without brackets.
     pub(crate) fn add_links(&self, links: &mut [u32])
-        requires long { length links.old ≡ PAIRS }
+        requires long { length links.old ≡ MOST_PAIRS }
         requires ok { Attained K.meaning (PlainLink K.meaning (held self.now)) links.old }
         ensures { Lowered K.meaning (PlainLink K.meaning (held self.now)) links.old links.new (PlainLink K.meaning (held self.now)) }
     {

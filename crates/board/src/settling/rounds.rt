@@ -7,7 +7,7 @@ ghost use Rattle.board.specs.Logs.{Kept, Book, Reached, RoundAdded, Refers, pair
 ghost use Rattle.board.specs.Minima.{SettlingInvariant};
 ghost use Rattle.board.specs.Winning.{LeastPair};
 
-use crate::bounds::{MOST_PLACES, MOST_ROWS, PAIRS};
+use crate::bounds::{MOST_PAIRS, MOST_PLACES, MOST_ROWS};
 use crate::log::{Derivation, Log, Record};
 use crate::settling::candidates::least_pair;
 use crate::settling::{Goal, Known, Minima, Waiting};
@@ -32,9 +32,9 @@ impl Settling {
         let mut settling = Settling {
             log: Log::new(),
             minima: Minima {
-                links: [K::worst(); PAIRS],
+                links: [K::worst(); MOST_PAIRS],
                 waiting: Waiting {
-                    costs: [K::worst(); PAIRS],
+                    costs: [K::worst(); MOST_PAIRS],
                     least: [K::worst(); MOST_PLACES],
                 },
                 leads: [false; MOST_ROWS],
@@ -94,7 +94,7 @@ impl Settling {
     fn round<K: Kind>(&mut self, tables: &Tables<K>, pair: usize)
         requires state { SettlingInvariant K.meaning (held tables.now) self.old.log self.old.minima }
         requires reached { Reached K.meaning (held tables.now) (records self.old.log) }
-        requires least { LeastPair K.meaning self.old.log self.old.minima.waiting.costs PAIRS pair }
+        requires least { LeastPair K.meaning self.old.log self.old.minima.waiting.costs MOST_PAIRS pair }
         ensures state { SettlingInvariant K.meaning (held tables.now) self.new.log self.new.minima }
         ensures reached { Reached K.meaning (held tables.now) (records self.new.log) }
         ensures added { RoundAdded K.meaning (held tables.now) self.old.log self.new.log }

@@ -19,7 +19,7 @@ use Rattle.file.specs.Readers.{may_come}
 use Rattle.file.specs.Records.{go_on, row_record, line_record, record_next, records_added}
 use Rattle.file.specs.Load.{Loaded, loaded_as, with_content, section_added, at_end, from_note, from_lines, from_rows}
 use Rattle.file.specs.Layout.{Description, in_bytes, head_word, row_word, line_word, row_bytes, line_bytes, one_byte, section_begun, section_written, header_written, written, Byte, KeepsLimits, content_of}
-use Rattle.file.specs.Declined.{at_head, at_row, at_line, at_note, before, may_follow, row_part_fault, line_part_fault, Declined}
+use Rattle.file.specs.Declined.{at_head, at_row, at_line, at_note, before, may_follow, row_part_refusal, line_part_refusal, Declined}
 use Rattle.file.proofs.Loads.Bytes.{each_take, each_drop}
 use Rattle.file.proofs.Loads.Words.{RowFits, row_word_fits, LineFits, line_word_fits, count_below}
 use Rattle.file.proofs.Loads.Turns.{passes_note, passes_lines, passes_rows, takes_note, takes_lines, takes_rows}
@@ -168,7 +168,7 @@ module _ (m : Meaning) (bs : List ℕ) (d : Description) where
       ap (λ (ys : List ℕ). header_written d ++ ys) (append_assoc (section_written rows_code row_bytes rows) (section_begun lines_code line_bytes n ls) s.rest)
       ∙ (ap (λ (ys : List ℕ). header_written d ++ (section_written rows_code row_bytes rows ++ ys)) (sym split) ∙ r.laid) in
       let ends : p.place + 2 + 8 * length ls + length s.rest ≡ length bs = omega (arith, r.ends, ap length split, length-append (flat_map line_bytes ls) s.rest, each_length line_bytes (λ l. refl) ls) in
-      let broken = refused_with (line_part_fault m d.trust (content_of m whole) s.rest) _ s.refusal (sym (line_rules m d.trust (content_of m whole) s.rest) ∙ (ap (λ (z : Content). record_next (line_record m d.trust) s.rest z) (sym k.2) ∙ s.broken)) in
+      let broken = refused_with (line_part_refusal m d.trust (content_of m whole) s.rest) _ s.refusal (sym (line_rules m d.trust (content_of m whole) s.rest) ∙ (ap (λ (z : Content). record_next (line_record m d.trust) s.rest z) (sym k.2) ∙ s.broken)) in
       record {
         due = due;
         keeps = (keeps_lines d rows ls r.keeps (omega (arith, k.0)) k.1, refl, s.more, count_below (word2 p.bytes));
@@ -228,7 +228,7 @@ module _ (m : Meaning) (bs : List ℕ) (d : Description) where
       laid_head p.bytes rows_code n long r.bytes is refl ∙ ap (λ (ys : List ℕ). in_bytes 2 (head_word rows_code n) ++ ys) s.laid in
       let laid : before due ++ s.rest ≡ bs = ap (λ (ys : List ℕ). header_written d ++ ys) (sym split) ∙ r.laid in
       let ends : p.place + 2 + 8 * length rs + length s.rest ≡ length bs = omega (arith, r.ends, ap length split, length-append (flat_map row_bytes rs) s.rest, each_length row_bytes (λ r. refl) rs) in
-      let broken = refused_with (row_part_fault m (content_of m whole) s.rest) _ s.refusal (sym (row_rules m (content_of m whole) s.rest) ∙ (ap (λ (z : Content). record_next (row_record m) s.rest z) (sym k.2) ∙ s.broken)) in
+      let broken = refused_with (row_part_refusal m (content_of m whole) s.rest) _ s.refusal (sym (row_rules m (content_of m whole) s.rest) ∙ (ap (λ (z : Content). record_next (row_record m) s.rest z) (sym k.2) ∙ s.broken)) in
       record {
         due = due;
         keeps = (keeps_rows d rs r.keeps (omega (arith, k.0)) k.1, refl, refl, s.more, count_below (word2 p.bytes));

@@ -18,7 +18,7 @@ use Rattle.file.specs.Sections.{rows_code, lines_code, note_code, next_section, 
 use Rattle.file.specs.Records.{go_on, at_place, row_record, line_record, record_next, records_added}
 use Rattle.file.specs.Load.{Opened, opened, Loaded, loaded_as, with_content, section_added, at_end, from_note, from_lines, from_rows, after_header, no_note, loaded, note_answer, load_answer}
 use Rattle.file.specs.Layout.{Description, held_in, in_bytes, head_word, row_word, line_word, row_bytes, line_bytes, one_byte, section_begun, section_written, header_written, written, Byte, RowLimits, LineLimits, KeepsLimits, content_of, Count}
-use Rattle.file.specs.Declined.{Due, at_header, at_head, at_row, at_line, at_note, before, KeepsLimitsBefore, header_fault, may_follow, head_fault, row_part_fault, line_part_fault, note_fault, part_fault, Declined, DeclinesExactly}
+use Rattle.file.specs.Declined.{Due, at_header, at_head, at_row, at_line, at_note, before, KeepsLimitsBefore, header_refusal, may_follow, head_refusal, row_part_refusal, line_part_refusal, note_refusal, part_refusal, Declined, DeclinesExactly}
 use Rattle.file.proofs.Loads.Bytes.{bytes_word4, word4_fits, each_byte, each_drop}
 use Rattle.file.proofs.Loads.Words.{RowFits, row_word_fits, LineFits, line_word_fits, HeaderWas, header_read_word}
 use Rattle.file.proofs.Loads.Turns.{passes_note, passes_lines, passes_rows, takes_note, takes_lines, takes_rows}
@@ -73,7 +73,7 @@ module _ (m : Meaning) (bs : List ℕ) (each : AllByRecursion Byte bs) where
         rest = bs;
         laid_out = refl;
         place = ap (λ (z : LoadFault). z.place) e;
-        broken = refused_with (header_fault m bs) (opened_new (header_fields (word4 bs))) r (sym (header_rules m bs) ∙ is) ∙ ap (λ (z : LoadFault). Some z.refusal) (sym e);
+        broken = refused_with (header_refusal m bs) (opened_new (header_fields (word4 bs))) r (sym (header_rules m bs) ∙ is) ∙ ap (λ (z : LoadFault). Some z.refusal) (sym e);
       }
   declined_by f (Ok o) is h =
       let w = opened_was m bs o is in
@@ -189,7 +189,7 @@ module _ (m : Meaning) (d : Description) (k : KeepsLimits m d) where
       (s.0, s.1 ∙ go_lines m d d.rows d.lines (record { bytes = front ++ tail; place = place }) s.0 tail (place + length front) k.few_lines k.lines_keep refl (omega (arith, length-append front tail)) other_lines)
 
   -- a head that may not come
-  at_head_refused : (rest : List ℕ) (r : FileRefusal) → head_fault d rest ≡ Some r → loaded m (written d ++ rest) ≡ Err (fault_at r (length (written d)))
+  at_head_refused : (rest : List ℕ) (r : FileRefusal) → head_refusal d rest ≡ Some r → loaded m (written d ++ rest) ≡ Err (fault_at r (length (written d)))
   at_head_refused rest r h =
       let rows = section_written rows_code row_bytes d.rows in
       let lines = section_written lines_code line_bytes d.lines in
@@ -209,7 +209,7 @@ module _ (m : Meaning) (d : Description) (k : KeepsLimits m d) where
       ∙ (s.1 ∙ (g.1 ∙ (head_refused d (record { bytes = rest; place = place + length note }) (loaded_as (content_of m (described d d.rows d.lines None)) g.0) r h ∙ ap (λ (z : ℕ). Err (fault_at r z)) end)))
 
   -- a note that is cut short
-  at_note_refused : (n : ℕ) (rest : List ℕ) (r : FileRefusal) → d.note ≡ None → Count n → note_fault n rest ≡ Some r → loaded m ((written d ++ section_begun note_code one_byte n []) ++ rest) ≡ Err (fault_at r (length (written d ++ section_begun note_code one_byte n [])))
+  at_note_refused : (n : ℕ) (rest : List ℕ) (r : FileRefusal) → d.note ≡ None → Count n → note_refusal n rest ≡ Some r → loaded m ((written d ++ section_begun note_code one_byte n []) ++ rest) ≡ Err (fault_at r (length (written d ++ section_begun note_code one_byte n [])))
   at_note_refused n rest r none few h =
       let rows = section_written rows_code row_bytes d.rows in
       let lines = section_written lines_code line_bytes d.lines in
@@ -234,7 +234,7 @@ module _ (m : Meaning) (d : Description) (k : KeepsLimits m d) where
       ∙ (s.1 ∙ (takes_note m d.trust p x a.long a.its_code ∙ (ap (λ (o : Result Loaded LoadFault). go_on o (at_end (past p))) added ∙ (λ i. Err (fault_at (t.1 i) (end i))))))
 
   -- a line that is refused
-  at_line_refused : (n : ℕ) (rest : List ℕ) (r : FileRefusal) → length (held_in d.lines) < n → Count n → line_part_fault m d.trust (content_of m d) rest ≡ Some r → loaded m ((header_written d ++ (section_written rows_code row_bytes d.rows ++ section_begun lines_code line_bytes n (held_in d.lines))) ++ rest) ≡ Err (fault_at r (length (header_written d ++ (section_written rows_code row_bytes d.rows ++ section_begun lines_code line_bytes n (held_in d.lines)))))
+  at_line_refused : (n : ℕ) (rest : List ℕ) (r : FileRefusal) → length (held_in d.lines) < n → Count n → line_part_refusal m d.trust (content_of m d) rest ≡ Some r → loaded m ((header_written d ++ (section_written rows_code row_bytes d.rows ++ section_begun lines_code line_bytes n (held_in d.lines))) ++ rest) ≡ Err (fault_at r (length (header_written d ++ (section_written rows_code row_bytes d.rows ++ section_begun lines_code line_bytes n (held_in d.lines)))))
   at_line_refused n rest r more few h =
       let ls = held_in d.lines in
       let rows = section_written rows_code row_bytes d.rows in
@@ -263,7 +263,7 @@ module _ (m : Meaning) (d : Description) (k : KeepsLimits m d) where
       ∙ (ap (λ (o : Result Content LoadFault). go_on (go_on o (with_content x)) (from_note m d.trust (past p))) counted ∙ ap (λ (z : ℕ). Err (fault_at r z)) end))))
 
   -- a row that is refused
-  at_row_refused : (n : ℕ) (rest : List ℕ) (r : FileRefusal) → d.lines ≡ None → length (held_in d.rows) < n → Count n → row_part_fault m (content_of m d) rest ≡ Some r → loaded m ((header_written d ++ section_begun rows_code row_bytes n (held_in d.rows)) ++ rest) ≡ Err (fault_at r (length (header_written d ++ section_begun rows_code row_bytes n (held_in d.rows))))
+  at_row_refused : (n : ℕ) (rest : List ℕ) (r : FileRefusal) → d.lines ≡ None → length (held_in d.rows) < n → Count n → row_part_refusal m (content_of m d) rest ≡ Some r → loaded m ((header_written d ++ section_begun rows_code row_bytes n (held_in d.rows)) ++ rest) ≡ Err (fault_at r (length (header_written d ++ section_begun rows_code row_bytes n (held_in d.rows))))
   at_row_refused n rest r none more few h =
       let rs = held_in d.rows in
       let begun = section_begun rows_code row_bytes n rs in
@@ -291,7 +291,7 @@ module _ (m : Meaning) (d : Description) (k : KeepsLimits m d) where
 
 module _ (m : Meaning) where
   -- each part that is due
-  due_refused : (due : Due) (rest : List ℕ) (r : FileRefusal) → KeepsLimitsBefore m due → part_fault m due rest ≡ Some r → loaded m (before due ++ rest) ≡ Err (fault_at r (length (before due)))
+  due_refused : (due : Due) (rest : List ℕ) (r : FileRefusal) → KeepsLimitsBefore m due → part_refusal m due rest ≡ Some r → loaded m (before due ++ rest) ≡ Err (fault_at r (length (before due)))
   due_refused at_header rest r k h =
       ap (λ (o : Result Opened FileRefusal). go_on (at_place o 0) (λ (z : Opened). from_rows m z.trust (after_header rest) (loaded_as z.content (no_note rest)))) (header_rules m rest ∙ ap (λ (o : Option FileRefusal). refused o (opened_new (header_fields (word4 rest)))) h)
   due_refused (at_head d) rest r k h = at_head_refused m d k rest r h

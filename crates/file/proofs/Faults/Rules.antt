@@ -14,7 +14,7 @@ use Rattle.file.specs.Parts.{PartRead, fault_at}
 use Rattle.file.specs.Records.{go_on, called, row_added, line_added, trusted_line, row_record, line_record, record_next}
 use Rattle.file.specs.Load.{Loaded, Opened, opened, sized, at_end}
 use Rattle.file.specs.Layout.{Description}
-use Rattle.file.specs.Declined.{by_board, first_broken, header_fault, may_follow, head_fault, row_part_fault, line_part_fault}
+use Rattle.file.specs.Declined.{by_board, first_broken, header_refusal, may_follow, head_refusal, row_part_refusal, line_part_refusal}
 
 -- a refusal, or what is answered without one
 abbrev pub refused : {X : Type 0} → Option FileRefusal → X → Result X FileRefusal
@@ -40,13 +40,13 @@ record_rule true zeros r next o d h = refl
 record_rule false true r next o d h = h ∙ called_alone o d
 record_rule false false r next o d h = refl
 
-pub row_rules : (m : Meaning) (c : Content) (bs : List ℕ) → record_next (row_record m) bs c ≡ refused (row_part_fault m c bs) (row_after m c (row_fields (word8 bs)))
+pub row_rules : (m : Meaning) (c : Content) (bs : List ℕ) → record_next (row_record m) bs c ≡ refused (row_part_refusal m c bs) (row_after m c (row_fields (word8 bs)))
 unfolding row_added
 row_rules m c bs =
     let r = row_fields (word8 bs) in
     record_rule (ltb (length bs) 8) (eqb (field (word8 bs) 32 2) 0) r (row_added m c) (row_refusal m c r) (row_after m c r) refl
 
-pub line_rules : (m : Meaning) (trust : ℕ) (c : Content) (bs : List ℕ) → record_next (line_record m trust) bs c ≡ refused (line_part_fault m trust c bs) (line_after m c (trusted_line m trust (line_fields (word8 bs))))
+pub line_rules : (m : Meaning) (trust : ℕ) (c : Content) (bs : List ℕ) → record_next (line_record m trust) bs c ≡ refused (line_part_refusal m trust c bs) (line_after m c (trusted_line m trust (line_fields (word8 bs))))
 unfolding line_added
 line_rules m trust c bs =
     let l = line_fields (word8 bs) in
@@ -54,10 +54,10 @@ line_rules m trust c bs =
     record_rule (ltb (length bs) 8) (eqb (field (word8 bs) 32 12) 0) l (λ k. line_added m c (trusted_line m trust k)) (line_refusal m c t) (line_after m c t) refl
 
 -- and so it is refused where a rule is broken
-pub row_refused : (m : Meaning) (c : Content) (bs : List ℕ) (e : FileRefusal) → row_part_fault m c bs ≡ Some e → record_next (row_record m) bs c ≡ Err e
+pub row_refused : (m : Meaning) (c : Content) (bs : List ℕ) (e : FileRefusal) → row_part_refusal m c bs ≡ Some e → record_next (row_record m) bs c ≡ Err e
 row_refused m c bs e h = row_rules m c bs ∙ ap (λ (o : Option FileRefusal). refused o (row_after m c (row_fields (word8 bs)))) h
 
-pub line_refused : (m : Meaning) (trust : ℕ) (c : Content) (bs : List ℕ) (e : FileRefusal) → line_part_fault m trust c bs ≡ Some e → record_next (line_record m trust) bs c ≡ Err e
+pub line_refused : (m : Meaning) (trust : ℕ) (c : Content) (bs : List ℕ) (e : FileRefusal) → line_part_refusal m trust c bs ≡ Some e → record_next (line_record m trust) bs c ≡ Err e
 line_refused m trust c bs e h = line_rules m trust c bs ∙ ap (λ (o : Option FileRefusal). refused o (line_after m c (trusted_line m trust (line_fields (word8 bs))))) h
 
 -- a header
@@ -72,7 +72,7 @@ header_rule false true true true h next o y k = k
 abbrev pub opened_new : Header → Opened
 opened_new h = record { content = size_after new h.modes h.moments; trust = h.trust }
 
-pub header_rules : (m : Meaning) (bs : List ℕ) → opened m bs new ≡ refused (header_fault m bs) (opened_new (header_fields (word4 bs)))
+pub header_rules : (m : Meaning) (bs : List ℕ) → opened m bs new ≡ refused (header_refusal m bs) (opened_new (header_fields (word4 bs)))
 unfolding sized
 header_rules m bs =
     let w = word4 bs in
@@ -109,14 +109,14 @@ module _ (d : Description) (p : PartRead) (x : Loaded) where
   abbrev follows : Bool
   follows = may_follow d.rows d.lines d.note (head_code p.bytes)
 
-  pub head_stops : (f : LoadFault) → at_end p x ≡ Err f → (2 ≤ length p.bytes → follows ≡ false) → (f.place ≡ p.place) × (head_fault d p.bytes ≡ Some f.refusal)
+  pub head_stops : (f : LoadFault) → at_end p x ≡ Err f → (2 ≤ length p.bytes → follows ≡ false) → (f.place ≡ p.place) × (head_refusal d p.bytes ≡ Some f.refusal)
   unfolding at_end
   head_stops f h k = stops_at_end (eqb (length p.bytes) 0) (ltb (length p.bytes) 2) follows p.place x f h (λ e. k (ltb-false (length p.bytes) 2 e))
 
-  pub head_refused : (r : FileRefusal) → head_fault d p.bytes ≡ Some r → at_end p x ≡ Err (fault_at r p.place)
+  pub head_refused : (r : FileRefusal) → head_refusal d p.bytes ≡ Some r → at_end p x ≡ Err (fault_at r p.place)
   unfolding at_end
   head_refused r h = (refused_at_end (eqb (length p.bytes) 0) (ltb (length p.bytes) 2) follows p.place x r h).0
 
 -- what may not come there
-pub head_other : (d : Description) (bs : List ℕ) (r : FileRefusal) → head_fault d bs ≡ Some r → (ltb (length bs) 2 ≡ true) ⊎ (may_follow d.rows d.lines d.note (head_code bs) ≡ false)
+pub head_other : (d : Description) (bs : List ℕ) (r : FileRefusal) → head_refusal d bs ≡ Some r → (ltb (length bs) 2 ≡ true) ⊎ (may_follow d.rows d.lines d.note (head_code bs) ≡ false)
 head_other d bs r h = (refused_at_end (eqb (length bs) 0) (ltb (length bs) 2) (may_follow d.rows d.lines d.note (head_code bs)) 0 (record { content = new; note = record { bytes = []; place = 0 } }) r h).1
