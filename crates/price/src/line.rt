@@ -70,7 +70,7 @@ fn words_answer<'a>(heap: Global, words: &[&'a [u8]]) -> LineAnswer<'a>
 
 // What the line comes to.
 #[tactic(auto, using(crate::proofs::Written::reads_written))]
-pub fn answer<'a>(heap: Global, line: &'a [u8]) -> LineAnswer<'a>
+pub fn line_answer<'a>(heap: Global, line: &'a [u8]) -> LineAnswer<'a>
     ensures made { IfSome (answer_of result) (λ a. a ≡ line_answer line.now) }
     ensures reads_written { CostsReadBack }
 {

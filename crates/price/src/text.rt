@@ -4,7 +4,7 @@ ghost use Rattle.price.specs.Lines.{answer_of};
 ghost use Rattle.price.specs.Printed.{word_line, answer_printed, input_printed, LineByLine};
 
 use crate::answer::{LineAnswer, LineFault};
-use crate::line::answer;
+use crate::line::line_answer;
 use std::alloc::{AllocError, Global};
 use words::{Newline, pieces, word_theorems};
 
@@ -46,7 +46,7 @@ pub fn price_lines(heap: Global, input: &[u8]) -> Result<Vec<u8>, AllocError>
     let lines = pieces::<Newline>(heap, input)?;
     let mut out = Vec::new(heap);
     for line in lines.as_slice() {
-        push_answer(&mut out, answer(heap, line))?;
+        push_answer(&mut out, line_answer(heap, line))?;
     }
     Ok(out)
 }

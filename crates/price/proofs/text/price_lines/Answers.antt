@@ -13,7 +13,7 @@ loop-line-preserved c =
     let out = vec_items c.loop-line.out in
     let nowhere : Bor (List ℕ) = record { ref_ptr = (0, 0); now = [] } in
     let here = get_or-map (λ x. x.now) lines i nowhere [] c.loop-line-test.true in
-    let pushed : vec_items c.push_answer.new.out ≡ out ++ line_printed (get_or (map (λ x. x.now) lines) i []) = appended out _ (get_or lines i nowhere).now _ c.answer.ensures.made c.in_ok-push_answer.ensures ∙ ap (λ l. out ++ line_printed l) (sym here) in
+    let pushed : vec_items c.push_answer.new.out ≡ out ++ line_printed (get_or (map (λ x. x.now) lines) i []) = appended out _ (get_or lines i nowhere).now _ c.line_answer.ensures.made c.in_ok-push_answer.ensures ∙ ap (λ l. out ++ line_printed l) (sym here) in
     ap (λ o. o ++ flat_map line_printed (drop (i + 1) (map (λ x. x.now) lines))) pushed
     ∙ line_next (map (λ x. x.now) lines) i out (omega (arith, length-map lines (λ x. x.now)))
     ∙ c.loop-line.invariant
